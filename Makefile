@@ -19,6 +19,7 @@ MAN := $(PREFIX)/share/man/man1/udsnorm.1
 BASH := $(PREFIX)/share/bash-completion/completions/udsnorm
 ZSH := $(PREFIX)/share/zsh/site-functions/_udsnorm
 FISH := $(PREFIX)/share/fish/vendor_completions.d/udsnorm.fish
+BENCH := $(PREFIX)/share/udsnorm/profiles/bench.toml
 PAGES := $(PREFIX)/share/doc/udsnorm
 
 EVIDENCE ?= out/udsnorm-$(VERSION)-evidence.md
@@ -47,9 +48,10 @@ help:
 		{ text = "" }' Makefile
 
 # Proves the library for C, and builds it, static and shared, into out/lib. One that needs a newer glibc than the README names
-# is refused.
+# is refused. Where gcc or binutils are missing they are installed, which needs root and Debian.
 lib:
 	@mkdir -p $(LIBRARY)
+	@(command -v gcc && command -v ld) > /dev/null || scripts/install-tools compiler
 	@echo 'udsnorm: proving and building the library; what rt says goes to $(LIBRARY_LOG)' >&2; \
 	(cd $(LIBRARY_CRATE) && rt lib < /dev/null) > $(LIBRARY_LOG) 2>&1 || { cat $(LIBRARY_LOG) >&2; exit 1; }
 	@scripts/build-library $(LIBRARY_CRATE)/out/libudsnorm_c.a $(LIBRARY)
@@ -82,8 +84,8 @@ gate:
 evidence:
 	@scripts/evidence '$(EVIDENCE)' $(if $(GATE),'$(GATE)')
 
-# Installs the program with manual page, completions, pages and sample logs, and the library. They go below PREFIX; DESTDIR is put
-# in front of each path.
+# Installs the program with manual page, completions, pages, samples and the library. They go below PREFIX; DESTDIR is put in
+# front of each path.
 install: build lib
 	@$(MAKE) --no-print-directory install-built install-built-lib
 
@@ -99,6 +101,7 @@ install-built:
 	install -D -m 644 share/completions/udsnorm.bash $(DESTDIR)$(BASH)
 	install -D -m 644 share/completions/_udsnorm $(DESTDIR)$(ZSH)
 	install -D -m 644 share/completions/udsnorm.fish $(DESTDIR)$(FISH)
+	install -D -m 644 share/profiles/bench.toml $(DESTDIR)$(BENCH)
 	packaging/pages $(DESTDIR)$(PAGES)
 
 # Installs the library as it was built before, with its header and what pkg-config reads.
@@ -112,7 +115,7 @@ install-built-lib:
 
 # Removes what `install` put there.
 uninstall:
-	rm -f $(DESTDIR)$(PREFIX)/bin/udsnorm $(DESTDIR)$(MAN) $(DESTDIR)$(BASH) $(DESTDIR)$(ZSH) $(DESTDIR)$(FISH)
+	rm -f $(DESTDIR)$(PREFIX)/bin/udsnorm $(DESTDIR)$(MAN) $(DESTDIR)$(BASH) $(DESTDIR)$(ZSH) $(DESTDIR)$(FISH) $(DESTDIR)$(BENCH)
 	rm -f $(DESTDIR)$(HEADER) $(DESTDIR)$(PKG_CONFIG) $(DESTDIR)$(LIBDIR)/libudsnorm.a
 	rm -f $(DESTDIR)$(LIBDIR)/libudsnorm.so $(DESTDIR)$(LIBDIR)/$(SONAME) $(DESTDIR)$(LIBDIR)/libudsnorm.so.$(VERSION)
 	rm -rf $(DESTDIR)$(PAGES)

@@ -46,9 +46,10 @@ enum udsnorm_status {
     UDSNORM_OVERSIZE = 5,     /* the frame in `line` announces a message of `announced` bytes; 1,048,575 is the most */
     UDSNORM_LOG_LIMIT = 6,    /* the log has more bytes than the limit */
     UDSNORM_OUTPUT_LIMIT = 7, /* its canonical log has */
-    UDSNORM_MEMORY = 8,       /* malloc or realloc answered a null pointer, for a log or a text that needs memory */
+    UDSNORM_MEMORY = 8,       /* malloc or realloc answered a null pointer, for a log, a profile or a text */
     UDSNORM_ROOM = 9,         /* the text has `length` bytes, more than there is room for */
-    UDSNORM_STYLE = 10        /* there is no such style of this text */
+    UDSNORM_STYLE = 10,       /* there is no such style of this text */
+    UDSNORM_PROFILE = 11      /* the profile is wrong, or the name of the unit: what is wrong is in `out` */
 };
 
 /* What a `style` may be. */
@@ -63,9 +64,10 @@ enum udsnorm_style {
 struct udsnorm_answer {
     uint32_t status;    /* one of enum udsnorm_status */
     uint32_t column;    /* UDSNORM_BAD_LINE: the byte in its line, from 1 */
-    uint64_t line;      /* UDSNORM_BAD_LINE, UDSNORM_OVERSIZE: the line of the log, from 1 */
+    uint64_t line;      /* UDSNORM_BAD_LINE, UDSNORM_OVERSIZE: the line of the log, from 1. UDSNORM_PROFILE: the line of
+                           the profile where it is not TOML, and else 0 */
     uint64_t announced; /* UDSNORM_OVERSIZE: bytes */
-    uint64_t length;    /* UDSNORM_DONE, UDSNORM_ROOM: the bytes of the text */
+    uint64_t length;    /* UDSNORM_DONE, UDSNORM_ROOM, UDSNORM_PROFILE: the bytes of the text */
     uint64_t item;      /* of two logs, UDSNORM_DONE, UDSNORM_ROOM: the first item that differs, from 1; 0: none does */
     uint16_t side;      /* of two logs, any fault of a log: 1 the left one, 2 the right one */
     uint16_t exchanged; /* UDSNORM_DONE, UDSNORM_ROOM, but of udsnorm_find: 1 where tester and unit look exchanged in
@@ -82,66 +84,81 @@ struct udsnorm_answer {
     uint64_t ended;      /* the receptions that ended without a message before the log did */
     uint64_t unfinished; /* the receptions that were open at the end: 0 to 2 */
     uint64_t pending;    /* the responses that only announce a later one, which the canonical log leaves out */
+    uint64_t left_out;   /* the messages that the profile leaves out; udsnorm_explain knows no rules */
 };
 
-/* All calls that take a log take these, but that udsnorm_find has no tester and no unit:
+/* All calls that take a log take these, but that udsnorm_find has no tester, no unit and no profile:
  *
  *   tester, unit   the identifiers of the frames that the tester and the unit send, as canid_t has them: 0 to 7FF, or
  *                  UDSNORM_EXTENDED with 0 to 1FFFFFFF. They have to be different.
  *   limit          the most bytes of a log, and of its canonical log: 1 to 2^40. A call takes memory for what a log
  *                  means, and for its text, which this bounds.
+ *   profile, profile_length
+ *                  the text of a profile, as docs/formats.md has it: which messages are left out, which bytes are
+ *                  masked, and which units a bench has. With a length of 0 there is none, and any pointer is allowed,
+ *                  also a null pointer. Where it has units, tester and unit are not looked at.
+ *   only, only_length
+ *                  the name of one of its units. With a length of 0 none is named: then it has one unit or none.
  *   log, length    the bytes of a log: that many may be read at `log`, and nobody writes them during the call. They
  *                  stay the caller's. With a length of 0 any pointer is allowed, also a null pointer.
  *   answer         where the answer goes. It is not null, and nothing else uses it during the call.
  *
- * and all but udsnorm_compare, which has no text:
+ * and:
  *
- *   out, room      memory of the caller for the text: that many bytes may be written at `out`, and nothing else uses
- *                  them during the call. They lie apart from the logs, their names and the answer. With a room of 0
- *                  any pointer is allowed.
+ *   out, room      memory of the caller for the text, and for what is wrong in a profile (udsnorm_compare has no other
+ *                  text): that many bytes may be written at `out`, and nothing else uses them during the call. They lie
+ *                  apart from the logs, their names, the profile and the answer. With a room of 0 any pointer is allowed.
  *
  * They return the status. With UDSNORM_DONE the text is the first answer->length bytes of `out`, with no 0 behind it,
- * and the bytes behind it are as they were. With every other status all of `out` is as it was. Where the room was too
- * small, the status is UDSNORM_ROOM, and answer->length says how much is wanted. A room of 4 * length + 512 bytes is
- * enough for each text, and one of 8 * length + 512 for objects of JSON, of logs with up to 10^11 lines. For
- * udsnorm_diff `length` is here that of both logs and both names together, and 16 * length + 512 is enough for objects.
- * A page is longer: ask with a room of 0 for its length, or again with that where there was too little room.
+ * and the bytes behind it are as they were. So is what is wrong in a profile with UDSNORM_PROFILE, where `room` is at
+ * least answer->length; 4,096 bytes are enough for it. With every other status all of `out` is as it was. Where the room
+ * was too small, the status is UDSNORM_ROOM, and answer->length says how much is wanted. A room of 4 * length + 512 bytes
+ * is enough for each text, and one of 8 * length + 512 for objects of JSON, of logs with up to 10^11 lines. For
+ * udsnorm_diff `length` is here that of both logs and both names together, 16 * length + 512 is enough for objects, and
+ * a profile with rules makes the text up to 16,384 bytes longer. A page is longer: ask with a room of 0 for its length,
+ * or again with that where there was too little room.
  *
  * A length is at most PTRDIFF_MAX. No call is made from a signal handler, or from the forked child of a process with
- * threads. 64 KiB of stack are enough for a call. Memory comes from malloc and realloc and goes back to free, which
+ * threads. 256 KiB of stack are enough for a call. Memory comes from malloc and realloc and goes back to free, which
  * have to be of one allocator.
  */
 
 /* The canonical log. Two logs have the same meaning exactly where their canonical logs are equal byte for byte.
  * Every status but UDSNORM_STYLE. */
-uint32_t udsnorm_normalise(uint32_t tester, uint32_t unit, uint64_t limit, const uint8_t *log, size_t length,
-                           uint8_t *out, size_t room, struct udsnorm_answer *answer);
+uint32_t udsnorm_normalise(uint32_t tester, uint32_t unit, uint64_t limit, const uint8_t *profile,
+                           size_t profile_length, const char *only, size_t only_length, const uint8_t *log,
+                           size_t length, uint8_t *out, size_t room, struct udsnorm_answer *answer);
 
 /* A line for each exchange and each stray message. `style` is one of enum udsnorm_style. Every status. */
-uint32_t udsnorm_list(uint32_t tester, uint32_t unit, uint64_t limit, uint32_t style, const uint8_t *log, size_t length,
+uint32_t udsnorm_list(uint32_t tester, uint32_t unit, uint64_t limit, const uint8_t *profile, size_t profile_length,
+                      const char *only, size_t only_length, uint32_t style, const uint8_t *log, size_t length,
                       uint8_t *out, size_t room, struct udsnorm_answer *answer);
 
 /* A line for each message that was received whole, with its lines and time stamps. `style` is UDSNORM_TEXT or
  * UDSNORM_JSON. Every status but UDSNORM_OVERSIZE and UDSNORM_OUTPUT_LIMIT. */
-uint32_t udsnorm_messages(uint32_t tester, uint32_t unit, uint64_t limit, uint32_t style, const uint8_t *log,
-                          size_t length, uint8_t *out, size_t room, struct udsnorm_answer *answer);
+uint32_t udsnorm_messages(uint32_t tester, uint32_t unit, uint64_t limit, const uint8_t *profile,
+                          size_t profile_length, const char *only, size_t only_length, uint32_t style,
+                          const uint8_t *log, size_t length, uint8_t *out, size_t room, struct udsnorm_answer *answer);
 
 /* What was dropped and why, and the counts. `style` is UDSNORM_TEXT or UDSNORM_JSON.
  * Every status but UDSNORM_OVERSIZE and UDSNORM_OUTPUT_LIMIT. */
-uint32_t udsnorm_explain(uint32_t tester, uint32_t unit, uint64_t limit, uint32_t style, const uint8_t *log,
-                         size_t length, uint8_t *out, size_t room, struct udsnorm_answer *answer);
+uint32_t udsnorm_explain(uint32_t tester, uint32_t unit, uint64_t limit, const uint8_t *profile, size_t profile_length,
+                         const char *only, size_t only_length, uint32_t style, const uint8_t *log, size_t length,
+                         uint8_t *out, size_t room, struct udsnorm_answer *answer);
 
 /* A line for each pair of identifiers of which one answered the other, whatever they are: it takes no tester and no
  * unit. `style` is UDSNORM_TEXT or UDSNORM_JSON. Of the counts `lines` alone is told; the others are 0.
- * Every status but UDSNORM_ID_RANGE, UDSNORM_SAME_ID, UDSNORM_OVERSIZE and UDSNORM_OUTPUT_LIMIT. */
+ * Every status but UDSNORM_ID_RANGE, UDSNORM_SAME_ID, UDSNORM_OVERSIZE, UDSNORM_OUTPUT_LIMIT and UDSNORM_PROFILE. */
 uint32_t udsnorm_find(uint64_t limit, uint32_t style, const uint8_t *log, size_t length, uint8_t *out, size_t room,
                       struct udsnorm_answer *answer);
 
 /* Whether two logs have the same meaning: answer->item is 0 where they do, else the number of the first item that
  * differs, as udsnorm_list numbers it. The right log is read only where the left one is accepted. The two may lie in
  * the same bytes. Every status but UDSNORM_ROOM and UDSNORM_STYLE. */
-uint32_t udsnorm_compare(uint32_t tester, uint32_t unit, uint64_t limit, const uint8_t *left, size_t left_length,
-                         const uint8_t *right, size_t right_length, struct udsnorm_answer *answer);
+uint32_t udsnorm_compare(uint32_t tester, uint32_t unit, uint64_t limit, const uint8_t *profile, size_t profile_length,
+                         const char *only, size_t only_length, const uint8_t *left, size_t left_length,
+                         const uint8_t *right, size_t right_length, uint8_t *out, size_t room,
+                         struct udsnorm_answer *answer);
 
 /* Where two logs differ: the items that one has alone, that differ or that stand beside them, as `diff -u` of their lists
  * without numbers writes them. Nothing where none does; as objects of JSON then the counts alone. `style` is UDSNORM_TEXT
@@ -150,7 +167,8 @@ uint32_t udsnorm_compare(uint32_t tester, uint32_t unit, uint64_t limit, const u
  * that of udsnorm_compare, with the length of the text: answer->item is the number of the first item that differs. All of
  * them may lie in the same bytes. UDSNORM_MEMORY with a side of 2 also where memory for the text was refused. Every
  * status. */
-uint32_t udsnorm_diff(uint32_t tester, uint32_t unit, uint64_t limit, uint32_t style, const char *left_name,
+uint32_t udsnorm_diff(uint32_t tester, uint32_t unit, uint64_t limit, const uint8_t *profile, size_t profile_length,
+                      const char *only, size_t only_length, uint32_t style, const char *left_name,
                       size_t left_name_length, const uint8_t *left, size_t left_length, const char *right_name,
                       size_t right_name_length, const uint8_t *right, size_t right_length, uint8_t *out, size_t room,
                       struct udsnorm_answer *answer);
@@ -159,15 +177,17 @@ uint32_t udsnorm_diff(uint32_t tester, uint32_t unit, uint64_t limit, uint32_t s
  * page calls the log, of `name_length` bytes; a byte that is no printable ASCII is shown by its number. The style is the
  * program's. Of a log that is refused there is no page, where the program writes one of the lines before.
  * Every status but UDSNORM_OVERSIZE, UDSNORM_OUTPUT_LIMIT and UDSNORM_STYLE. */
-uint32_t udsnorm_report(uint32_t tester, uint32_t unit, uint64_t limit, const char *name, size_t name_length,
-                        const uint8_t *log, size_t length, uint8_t *out, size_t room, struct udsnorm_answer *answer);
+uint32_t udsnorm_report(uint32_t tester, uint32_t unit, uint64_t limit, const uint8_t *profile, size_t profile_length,
+                        const char *only, size_t only_length, const char *name, size_t name_length, const uint8_t *log,
+                        size_t length, uint8_t *out, size_t room, struct udsnorm_answer *answer);
 
 /* The page of two logs: whether they are the same session, and where they differ first. answer->item is the number of
  * the first item that differs, and 0 where none does: so it is what udsnorm_compare answers, if that accepts both. The
  * right log is read only where the left one can be read. All of them may lie in the same bytes. UDSNORM_MEMORY with a
  * side of 0: memory for the page was refused. Every status but UDSNORM_OVERSIZE, UDSNORM_OUTPUT_LIMIT and
  * UDSNORM_STYLE. */
-uint32_t udsnorm_report_pair(uint32_t tester, uint32_t unit, uint64_t limit, const char *left_name,
+uint32_t udsnorm_report_pair(uint32_t tester, uint32_t unit, uint64_t limit, const uint8_t *profile,
+                             size_t profile_length, const char *only, size_t only_length, const char *left_name,
                              size_t left_name_length, const uint8_t *left, size_t left_length, const char *right_name,
                              size_t right_name_length, const uint8_t *right, size_t right_length, uint8_t *out,
                              size_t room, struct udsnorm_answer *answer);

@@ -42,7 +42,7 @@ Description-Content-Type: text/plain
 {(HERE / "README").read_text()}"""
 # What README names, and what the commands on these pages copy: each comes to lie below share/doc/udsnorm of the prefix, as it lies
 # in the repository.
-PAGES = [TOP / "docs" / f"{name}.md" for name in ("library", "python", "questions", "recipes", "formats")]
+PAGES = [TOP / "docs" / f"{name}.md" for name in ("library", "python", "tutorial", "questions", "recipes", "formats")]
 SAMPLES = [*sorted((TOP / "examples").iterdir()), HERE / "examples" / "sessions.py"]
 PAGES_AT = f"udsnorm-{VERSION}.data/data/share/doc/udsnorm"
 # A link to a file: its words, and where that lies.

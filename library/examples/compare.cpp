@@ -24,8 +24,8 @@ int main(int count, char **words)
         return 2;
     }
     udsnorm_answer answer;
-    udsnorm_compare(UDSNORM_TESTER, UDSNORM_UNIT, UDSNORM_LIMIT, left.data(), left.size(), right.data(), right.size(),
-                    &answer);
+    udsnorm_compare(UDSNORM_TESTER, UDSNORM_UNIT, UDSNORM_LIMIT, nullptr, 0, nullptr, 0, left.data(), left.size(),
+                    right.data(), right.size(), nullptr, 0, &answer);
     if (answer.status != UDSNORM_DONE) {
         std::cerr << words[answer.side] << ": refused in line " << answer.line << " (status " << answer.status << ")\n";
         return 2;

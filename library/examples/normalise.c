@@ -28,7 +28,7 @@ static uint8_t *contents(const char *name, size_t *length)
 static int write_canonical(const uint8_t *log, size_t length, uint8_t *text, size_t room)
 {
     struct udsnorm_answer a;
-    udsnorm_normalise(UDSNORM_TESTER, UDSNORM_UNIT, UDSNORM_LIMIT, log, length, text, room, &a);
+    udsnorm_normalise(UDSNORM_TESTER, UDSNORM_UNIT, UDSNORM_LIMIT, NULL, 0, NULL, 0, log, length, text, room, &a);
     if (a.status == UDSNORM_DONE)
         return fwrite(text, 1, (size_t)a.length, stdout) == a.length && fflush(stdout) == 0;
     if (a.status == UDSNORM_BAD_LINE)

@@ -26,6 +26,7 @@ from itertools import islice
 from typing import TYPE_CHECKING, Any, Callable, Iterable, Iterator, List, NamedTuple, Optional, Union
 
 from . import _formats, _library
+from ._profile import Profile, read_profile
 from ._library import Answer, Settings
 from ._lines import Change, Counts, Direction, Exchange, Item, Message, Outcome, Pair, Place, Role, Row, RowCounts, Stray
 from ._lines import items_of, messages_of, pairs_of, row_counts_of, rows_of
@@ -38,7 +39,7 @@ else:
 
 __all__ = [
     "Change", "Counts", "Diff", "Difference", "Direction", "EXTENDED", "Exchange", "Explanation", "Identifier", "Item",
-    "LIMIT", "LeftOut", "Log", "Message", "Outcome", "Pair", "Place", "Refused", "Role", "Row", "RowCounts", "Stray",
+    "LIMIT", "LeftOut", "Log", "Message", "Outcome", "Pair", "Place", "Profile", "Refused", "Role", "Row", "RowCounts", "Stray",
     "TESTER", "UNIT", "compare", "diff", "explain", "find", "from_messages", "items", "iter_items", "iter_messages",
     "messages", "normalise", "report", "report_pair",
 ]
@@ -118,57 +119,105 @@ class Diff(NamedTuple):
         return self.text
 
 
-def normalise(log: Log, *, tester: Identifier = TESTER, unit: Identifier = UNIT, limit: int = LIMIT) -> bytes:
+def normalise(
+    log: Log,
+    *,
+    tester: Identifier = TESTER,
+    unit: Identifier = UNIT,
+    limit: int = LIMIT,
+    profile: Optional[Profile] = None,
+    only: Optional[str] = None,
+) -> bytes:
     """The canonical log. Two logs have the same meaning exactly where these are equal.
 
     `log`: its bytes in any buffer, or the path of a file.
     `tester`, `unit`: the identifiers of the frames that each side sends, as Linux's canid_t has them: 0 to 0x7FF, or
     `EXTENDED | number` with a number up to 0x1FFFFFFF; or as a text, "7E0" or "18DA10F1". They have to be different.
     `limit`: the most bytes of the log, and of its canonical log: 1 to 2**40. It bounds the memory that a call takes.
+    `profile`: which messages are left out, which bytes are masked, and which units a bench has, as docs/formats.md says:
+    the path of a file, the bytes of its TOML, or a `dict` with its keys. Where it has units, `tester` and `unit` are not
+    looked at. `only`: the name of one of them; it has to be there where there are several.
 
-    Raises `Refused` where the log is refused, `ValueError` for settings that there are not, `MemoryError`,
-    `OSError` where a file can't be read, and `ImportError` where python-can is missing that reads it.
+    Raises `Refused` where the log is refused, `ValueError` for settings that there are not, and with what is wrong in a
+    profile, `MemoryError`, `OSError` where a file can't be read, and `ImportError` where python-can is missing that reads
+    it.
     """
-    return _text("normalise", log, _settings(tester, unit, limit))[1]
+    return _text("normalise", log, _settings(tester, unit, limit, profile, only))[1]
 
 
-def items(log: Log, *, tester: Identifier = TESTER, unit: Identifier = UNIT, limit: int = LIMIT) -> List[Item]:
+def items(
+    log: Log,
+    *,
+    tester: Identifier = TESTER,
+    unit: Identifier = UNIT,
+    limit: int = LIMIT,
+    profile: Optional[Profile] = None,
+    only: Optional[str] = None,
+) -> List[Item]:
     """The exchanges and the stray messages of a log, in the order of its meaning, with their lines and times.
 
     Settings and errors are those of `normalise`."""
-    return list(iter_items(log, tester=tester, unit=unit, limit=limit))
+    return list(iter_items(log, tester=tester, unit=unit, limit=limit, profile=profile, only=only))
 
 
 def iter_items(
-    log: Log, *, tester: Identifier = TESTER, unit: Identifier = UNIT, limit: int = LIMIT
+    log: Log,
+    *,
+    tester: Identifier = TESTER,
+    unit: Identifier = UNIT,
+    limit: int = LIMIT,
+    profile: Optional[Profile] = None,
+    only: Optional[str] = None,
 ) -> Iterator[Item]:
     """The items of `items` one after the other, so that no list of them is held. Errors are raised by the call.
 
     Held are the lines of all items and those of `messages`, which tell their places: for each message about a hundred
     bytes, and four for each byte of it."""
-    settings = _settings(tester, unit, limit)
+    settings = _settings(tester, unit, limit, profile, only)
     return _items_in(_contents(log, settings.limit), log, settings)
 
 
-def messages(log: Log, *, tester: Identifier = TESTER, unit: Identifier = UNIT, limit: int = LIMIT) -> List[Message]:
+def messages(
+    log: Log,
+    *,
+    tester: Identifier = TESTER,
+    unit: Identifier = UNIT,
+    limit: int = LIMIT,
+    profile: Optional[Profile] = None,
+    only: Optional[str] = None,
+) -> List[Message]:
     """The messages of a log that were received whole, in the order in which they were complete, with their times.
 
     Settings and errors are those of `normalise`, but that no announced length and no canonical log refuses a log."""
-    return list(iter_messages(log, tester=tester, unit=unit, limit=limit))
+    return list(iter_messages(log, tester=tester, unit=unit, limit=limit, profile=profile, only=only))
 
 
 def iter_messages(
-    log: Log, *, tester: Identifier = TESTER, unit: Identifier = UNIT, limit: int = LIMIT
+    log: Log,
+    *,
+    tester: Identifier = TESTER,
+    unit: Identifier = UNIT,
+    limit: int = LIMIT,
+    profile: Optional[Profile] = None,
+    only: Optional[str] = None,
 ) -> Iterator[Message]:
     """The messages of `messages` one after the other, so that no list of them is held. Errors are raised by the call."""
-    return messages_of(_text("messages", log, _settings(tester, unit, limit), _library.TEXT)[1])
+    return messages_of(_text("messages", log, _settings(tester, unit, limit, profile, only), _library.TEXT)[1])
 
 
-def explain(log: Log, *, tester: Identifier = TESTER, unit: Identifier = UNIT, limit: int = LIMIT) -> Explanation:
+def explain(
+    log: Log,
+    *,
+    tester: Identifier = TESTER,
+    unit: Identifier = UNIT,
+    limit: int = LIMIT,
+    profile: Optional[Profile] = None,
+    only: Optional[str] = None,
+) -> Explanation:
     """What was dropped of a log and why, and its counts.
 
     Settings and errors are those of `normalise`, but that no announced length and no canonical log refuses a log."""
-    answer, text = _text("explain", log, _settings(tester, unit, limit), _library.TEXT)
+    answer, text = _text("explain", log, _settings(tester, unit, limit, profile, only), _library.TEXT)
     counts = Counts(
         answer.lines, answer.frames, answer.messages, answer.dropped, answer.ended, answer.unfinished, answer.pending
     )
@@ -177,19 +226,27 @@ def explain(log: Log, *, tester: Identifier = TESTER, unit: Identifier = UNIT, l
 
 
 def find(log: Log, *, limit: int = LIMIT) -> List[Pair]:
-    """Which identifiers ask and which answer, for a log whose identifiers nobody told: the most answers first.
+    """Which identifiers answer, each with the one that asks it, for a log whose identifiers nobody told: the most answers
+    first.
 
     The limit and errors are those of `normalise`, but that no announced length and no canonical log refuses a log."""
-    return pairs_of(_text("find", log, _settings(TESTER, UNIT, limit), _library.TEXT)[1])
+    return pairs_of(_text("find", log, _settings(TESTER, UNIT, limit, None, None), _library.JSON)[1])
 
 
 def compare(
-    left: Log, right: Log, *, tester: Identifier = TESTER, unit: Identifier = UNIT, limit: int = LIMIT
+    left: Log,
+    right: Log,
+    *,
+    tester: Identifier = TESTER,
+    unit: Identifier = UNIT,
+    limit: int = LIMIT,
+    profile: Optional[Profile] = None,
+    only: Optional[str] = None,
 ) -> Optional[Difference]:
     """The first item in which two logs differ; None where they have the same meaning.
 
     Settings and errors are those of `normalise`. Where both logs are refused, the left one is told."""
-    settings = _settings(tester, unit, limit)
+    settings = _settings(tester, unit, limit, profile, only)
     answer, one, other = _compared(left, right, settings)
     if answer.item == 0:
         return None
@@ -204,12 +261,14 @@ def diff(
     tester: Identifier = TESTER,
     unit: Identifier = UNIT,
     limit: int = LIMIT,
+    profile: Optional[Profile] = None,
+    only: Optional[str] = None,
 ) -> Diff:
     """What stands beside what in two logs: which items are the same, which have changed, and which only one of them has.
 
     `names` are what its text calls them; without these, they are their paths, or "left" and "right".
     Settings and errors are those of `compare`."""
-    settings = _settings(tester, unit, limit)
+    settings = _settings(tester, unit, limit, profile, only)
     one, other = _both(left, right, settings, lambda *logs: _library.compare(settings, *logs))
     objects = _diff_text(left, right, one, other, names, settings, _library.JSON)
     rows = rows_of(objects, list(_items_in(one, left, settings)), list(_items_in(other, right, settings)))
@@ -218,13 +277,20 @@ def diff(
 
 
 def report(
-    log: Log, *, name: Optional[str] = None, tester: Identifier = TESTER, unit: Identifier = UNIT, limit: int = LIMIT
+    log: Log,
+    *,
+    name: Optional[str] = None,
+    tester: Identifier = TESTER,
+    unit: Identifier = UNIT,
+    limit: int = LIMIT,
+    profile: Optional[Profile] = None,
+    only: Optional[str] = None,
 ) -> bytes:
     """The page of a log, as the program's `report LOG` writes it: a file of HTML.
 
     `name` is what the page calls the log; without it, that is the name of its file, or "log".
     Settings and errors are those of `normalise`, but that no announced length and no canonical log refuses a log."""
-    settings = _settings(tester, unit, limit)
+    settings = _settings(tester, unit, limit, profile, only)
     if name is None:
         name = _file_name(log, "log")
     answer, page = _library.page(settings, os.fsencode(name), _contents(log, settings.limit))
@@ -241,6 +307,8 @@ def report_pair(
     tester: Identifier = TESTER,
     unit: Identifier = UNIT,
     limit: int = LIMIT,
+    profile: Optional[Profile] = None,
+    only: Optional[str] = None,
 ) -> bytes:
     """The page of two logs, as the program's `report LOG OTHER` writes it: whether they are the same session, and where they
     differ first.
@@ -248,7 +316,7 @@ def report_pair(
     `names` are what the page calls them; without these, they are the names of their files, or their paths where these
     are equal, or "left" and "right".
     Settings and errors are those of `compare`, but that no announced length and no canonical log refuses a log."""
-    settings = _settings(tester, unit, limit)
+    settings = _settings(tester, unit, limit, profile, only)
     one, other = _both(left, right, settings, lambda *logs: _library.pair_page(settings, (b"", b""), *logs)[0])
     return _pair_page(left, right, one, other, names, settings)
 
@@ -261,11 +329,14 @@ def from_messages(messages: Iterable[Any]) -> bytes:
     return log
 
 
-def _settings(tester: Identifier, unit: Identifier, limit: int) -> Settings:
+def _settings(
+    tester: Identifier, unit: Identifier, limit: int, profile: Optional[Profile], only: Optional[str]
+) -> Settings:
     """The settings as numbers that C has; no number is cut."""
     if not 0 <= limit < 1 << 64:
         raise ValueError(_library.status_text(_library.LIMIT_RANGE))
-    return Settings(_number_of(tester), _number_of(unit), limit)
+    text, file = read_profile(profile)
+    return Settings(_number_of(tester), _number_of(unit), limit, text, os.fsencode(only or ""), file and _formats.shown(file))
 
 
 def _number_of(identifier: Identifier) -> int:

@@ -73,6 +73,8 @@ def _run(words: List[str]) -> int:
         try:
             folder = _program.Folder(root, _program.limit_of(program, words))
             given = [folder.word_for(word, logs[at], at in others) if at in logs else word for at, word in enumerate(words)]
+            for at, front in _program.profiles_in(words):
+                given[at] = front + folder.word_for(words[at][len(front) :], None, False)
             return folder.run(program, given, is_given=is_given)
         finally:
             # The folder goes whatever comes.

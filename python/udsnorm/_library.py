@@ -5,14 +5,14 @@ from __future__ import annotations
 import ctypes
 import functools
 from pathlib import Path
-from typing import Any, Iterable, List, NamedTuple, Tuple
+from typing import Any, Iterable, List, NamedTuple, Optional, Tuple
 
 # The name of the shared library, and the version of it that this package is made for.
 SONAME = "libudsnorm.so.0"
 VERSION = "1.0.0"
 
-# The values of `status`, but that of a style that there is not.
-DONE, ID_RANGE, SAME_ID, LIMIT_RANGE, BAD_LINE, OVERSIZE, LOG_LIMIT, OUTPUT_LIMIT, MEMORY, ROOM = range(10)
+# The values of `status`.
+DONE, ID_RANGE, SAME_ID, LIMIT_RANGE, BAD_LINE, OVERSIZE, LOG_LIMIT, OUTPUT_LIMIT, MEMORY, ROOM, STYLE, PROFILE = range(12)
 
 # The styles of a text.
 TEXT, NO_NUMBERS, JSON = 0, 1, 2
@@ -37,6 +37,7 @@ class Answer(ctypes.Structure):
     ended: int
     unfinished: int
     pending: int
+    left_out: int
 
     _fields_ = [
         ("status", ctypes.c_uint32),
@@ -55,6 +56,7 @@ class Answer(ctypes.Structure):
         ("ended", ctypes.c_uint64),
         ("unfinished", ctypes.c_uint64),
         ("pending", ctypes.c_uint64),
+        ("left_out", ctypes.c_uint64),
     ]
 
 
@@ -67,11 +69,20 @@ class _Words(ctypes.Structure):
 
 
 class Settings(NamedTuple):
-    """The identifiers of the two sides, as Linux's canid_t has them, and the limit in bytes."""
+    """The identifiers of the two sides, as Linux's canid_t has them, and the limit in bytes; the text of a profile, the name of
+    one of its units, and the path of its file, if it has one."""
 
     tester: int
     unit: int
     limit: int
+    profile: bytes = b""
+    only: bytes = b""
+    file: Optional[str] = None
+
+    def given(self) -> Tuple[Any, ...]:
+        """These as a call takes them."""
+        only = (self.only, len(self.only))
+        return (self.tester, self.unit, self.limit, self.profile, len(self.profile), *only)
 
 
 @functools.lru_cache(maxsize=None)
@@ -96,9 +107,9 @@ _process.free.argtypes = [ctypes.c_void_p]
 _process.free.restype = None
 
 # The types of the parameters, as udsnorm.h has them.
-_SETTINGS: List[Any] = [ctypes.c_uint32, ctypes.c_uint32, ctypes.c_uint64]
-_STYLE: List[Any] = [ctypes.c_uint32]
 _LOG: List[Any] = [ctypes.c_char_p, ctypes.c_size_t]
+_SETTINGS: List[Any] = [ctypes.c_uint32, ctypes.c_uint32, ctypes.c_uint64, *_LOG, *_LOG]
+_STYLE: List[Any] = [ctypes.c_uint32]
 _OUT: List[Any] = [ctypes.c_void_p, ctypes.c_size_t]
 _ANSWER: List[Any] = [ctypes.POINTER(Answer)]
 
@@ -109,7 +120,7 @@ def _declare(library: ctypes.CDLL) -> None:
     library.udsnorm_messages.argtypes = [*_SETTINGS, *_STYLE, *_LOG, *_OUT, *_ANSWER]
     library.udsnorm_explain.argtypes = [*_SETTINGS, *_STYLE, *_LOG, *_OUT, *_ANSWER]
     library.udsnorm_find.argtypes = [ctypes.c_uint64, *_STYLE, *_LOG, *_OUT, *_ANSWER]
-    library.udsnorm_compare.argtypes = [*_SETTINGS, *_LOG, *_LOG, *_ANSWER]
+    library.udsnorm_compare.argtypes = [*_SETTINGS, *_LOG, *_LOG, *_OUT, *_ANSWER]
     library.udsnorm_diff.argtypes = [*_SETTINGS, *_STYLE, *_LOG, *_LOG, *_LOG, *_LOG, *_OUT, *_ANSWER]
     library.udsnorm_report.argtypes = [*_SETTINGS, *_LOG, *_LOG, *_OUT, *_ANSWER]
     library.udsnorm_report_pair.argtypes = [*_SETTINGS, *_LOG, *_LOG, *_LOG, *_LOG, *_OUT, *_ANSWER]
@@ -125,34 +136,40 @@ def text(name: str, settings: Settings, log: bytes, *style: int) -> Tuple[Answer
     """The answer of the call of this name, and its text: none where the answer says why there is none.
 
     The interpreter's lock is given up during the call, as during the others."""
-    given = (*(settings[2:] if name == "find" else settings), *style, log, len(log))
-    return _put(getattr(loaded(), f"udsnorm_{name}"), given, 4 * len(log) + 512)
+    asked = (settings.limit,) if name == "find" else settings.given()
+    return _put(getattr(loaded(), f"udsnorm_{name}"), settings, (*asked, *style, log, len(log)), 4 * len(log) + 512)
 
 
 def diff(settings: Settings, style: int, names: Tuple[bytes, bytes], left: bytes, right: bytes) -> Tuple[Answer, bytes]:
     """The same of where two logs with these names differ."""
-    logs = [part for data in (names[0], left, names[1], right) for part in (data, len(data))]
+    given = (names[0], left, names[1], right)
+    logs = [part for data in given for part in (data, len(data))]
     growth = 16 if style == JSON else 4
-    return _put(loaded().udsnorm_diff, (*settings, style, *logs), growth * sum(logs[1::2]) + 512)
+    return _put(loaded().udsnorm_diff, settings, (*settings.given(), style, *logs), growth * sum(map(len, given)) + 512)
 
 
 def page(settings: Settings, name: bytes, log: bytes) -> Tuple[Answer, bytes]:
     """The same of the page of a log with this name."""
-    given = (*settings, name, len(name), log, len(log))
-    return _put(loaded().udsnorm_report, given, _OF_A_PAGE + _OF_ITS_LOGS * len(log))
+    given = (*settings.given(), name, len(name), log, len(log))
+    return _put(loaded().udsnorm_report, settings, given, _OF_A_PAGE + _OF_ITS_LOGS * len(log))
 
 
 def pair_page(settings: Settings, names: Tuple[bytes, bytes], left: bytes, right: bytes) -> Tuple[Answer, bytes]:
     """The same of the page of two logs with these names."""
     logs = [part for data in (names[0], left, names[1], right) for part in (data, len(data))]
-    return _put(loaded().udsnorm_report_pair, (*settings, *logs), _OF_A_PAGE + _OF_ITS_LOGS * (len(left) + len(right)))
+    room = _OF_A_PAGE + _OF_ITS_LOGS * (len(left) + len(right))
+    return _put(loaded().udsnorm_report_pair, settings, (*settings.given(), *logs), room)
 
 
-def _put(call: Any, given: Iterable[Any], room: int) -> Tuple[Answer, bytes]:
+# How many bytes of room are enough for what is wrong in a profile.
+_OF_A_PROFILE = 1 << 12
+
+
+def _put(call: Any, settings: Settings, given: Iterable[Any], room: int) -> Tuple[Answer, bytes]:
     """The answer of a call to these arguments, and its text: there is so much room for it at first, if there is, and then
-    as much as it wants."""
+    as much as it wants. What is wrong in a profile is raised."""
     answer = Answer()
-    is_known = False
+    room, is_known = max(room, _OF_A_PROFILE), False
     while True:
         out = _process.malloc(room)
         if not out and is_known:
@@ -160,8 +177,11 @@ def _put(call: Any, given: Iterable[Any], room: int) -> Tuple[Answer, bytes]:
         try:
             # Without room it is asked how much is wanted.
             call(*given, out, room if out else 0, ctypes.byref(answer))
-            if answer.status != ROOM:
-                return answer, _bytes_at(out, answer.length) if answer.length else b""
+            if answer.status != ROOM and (answer.status != PROFILE or out):
+                text = _bytes_at(out, answer.length) if answer.length else b""
+                if answer.status == PROFILE:
+                    raise ValueError(": ".join(filter(None, (settings.file, text.decode("ascii")))))
+                return answer, text
         finally:
             _process.free(out)
         room, is_known = answer.length, True
@@ -169,9 +189,8 @@ def _put(call: Any, given: Iterable[Any], room: int) -> Tuple[Answer, bytes]:
 
 def compare(settings: Settings, left: bytes, right: bytes) -> Answer:
     """What two logs are to each other."""
-    answer = Answer()
-    loaded().udsnorm_compare(*settings, left, len(left), right, len(right), ctypes.byref(answer))
-    return answer
+    given = (*settings.given(), left, len(left), right, len(right))
+    return _put(loaded().udsnorm_compare, settings, given, _OF_A_PROFILE)[0]
 
 
 def status_text(status: int) -> str:

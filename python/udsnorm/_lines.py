@@ -5,7 +5,7 @@ from __future__ import annotations
 import io
 import json
 import re
-from typing import Dict, Iterator, List, Literal, NamedTuple, Optional, Sequence, Tuple, Union, cast
+from typing import Any, Dict, Iterator, List, Literal, NamedTuple, Optional, Sequence, Tuple, Union, cast
 
 Change = Literal["same", "changed", "removed", "added"]
 Direction = Literal["tester", "unit"]
@@ -51,6 +51,27 @@ class _Placed:
     def end(self) -> int:
         """The time of its last frame."""
         return _place(self._last).end
+
+
+class _Masked(bytes):
+    """A message that the rules of a profile have left, as the canonical log has it: 00 where a byte is masked. Its text has
+    `..` there, and a `*` where what followed, if anything, is cut off."""
+
+    text: str
+
+
+def _bytes(text: str) -> bytes:
+    """The bytes of a message that a line tells."""
+    if "." not in text and "*" not in text:
+        return bytes.fromhex(text)
+    masked = _Masked(bytes.fromhex(text.rstrip("*").replace("..", "00")))
+    masked.text = text
+    return masked
+
+
+def _digits(message: bytes) -> str:
+    """A message as a line tells it."""
+    return message.text if isinstance(message, _Masked) else message.hex().upper()
 
 
 class _ExchangeFields(NamedTuple):
@@ -140,23 +161,31 @@ class Row(NamedTuple):
     right: Optional[Item]
 
 
-class RowCounts(NamedTuple):
-    """How many rows are of each kind. `same`, `changed` and `removed` are together the left log, and `same`, `changed` and
-    `added` the right one."""
-
+class _RowCountsFields(NamedTuple):
     same: int
     removed: int
     added: int
     changed: int
 
 
+class RowCounts(_RowCountsFields):
+    """How many rows are of each kind. `same`, `changed` and `removed` are together the left log, and `same`, `changed` and
+    `added` the right one.
+
+    `left_out` stands beside the four: how many messages the rules of a profile left out of the left log, and how many of
+    the right one; None where there are no rules."""
+
+    left_out: Optional[Tuple[int, int]] = None
+
+
 class Pair(NamedTuple):
-    """An identifier that asks, one that answers it, and how often it did. The identifiers are those that the calls
-    take as `tester` and `unit`, as Linux's canid_t has them."""
+    """A unit and its tester, how many of the tester's requests the unit answered, and how many requests the tester sent.
+    The identifiers are those that the calls take as `tester` and `unit`, as Linux's canid_t has them."""
 
     credits: int
     tester: int
     unit: int
+    requests: int
 
 
 class _CountsFields(NamedTuple):
@@ -184,8 +213,8 @@ class Counts(_CountsFields):
 
 
 def _shown(item: Union[Exchange, Stray, Message]) -> str:
-    """An item with its bytes as hexadecimal digits."""
-    parts = (f"{name}={value.hex().upper() if isinstance(value, bytes) else repr(value)}" for name, value in item._asdict().items())
+    """An item with its bytes as hexadecimal digits, and under a profile as its lists have them."""
+    parts = (f"{name}={_digits(value) if isinstance(value, bytes) else repr(value)}" for name, value in item._asdict().items())
     return f"{type(item).__name__}({', '.join(parts)})"
 
 
@@ -206,12 +235,12 @@ def items_of(text: bytes, messages: bytes) -> Iterator[Item]:
 
 def _item(fields: List[str], number: bytes, places: "_Places") -> Item:
     if fields[0] == "stray":
-        stray = Stray(cast(Direction, fields[1]), bytes.fromhex(fields[2]))
+        stray = Stray(cast(Direction, fields[1]), _bytes(fields[2]))
         stray._first = stray._last = places.of(b"%b stray %b" % (number, fields[1].encode()))
         return stray
-    service, request, outcome = fields[1], bytes.fromhex(fields[2]), cast(Outcome, fields[4])
+    service, request, outcome = fields[1], _bytes(fields[2]), cast(Outcome, fields[4])
     code = fields[5] if outcome == "negative" else None
-    answer = bytes.fromhex(fields[-1]) if outcome in ("positive", "negative") else None
+    answer = _bytes(fields[-1]) if outcome in ("positive", "negative") else None
     exchange = Exchange(service, request, outcome, code, answer)
     exchange._first = exchange._last = places.of(b"%b request tester" % number)
     if answer is not None:
@@ -254,7 +283,7 @@ def _message(fields: List[str]) -> Message:
     item, role, direction, _, first, _, last, _, begin, _, end, message = fields
     return Message(
         int(item), cast(Role, role), cast(Direction, direction), int(first), int(last),
-        _microseconds(begin), _microseconds(end), bytes.fromhex(message),
+        _microseconds(begin), _microseconds(end), _bytes(message),
     )
 
 
@@ -288,17 +317,20 @@ def _changes(objects: bytes) -> Iterator[Tuple[Change, int, int]]:
 def row_counts_of(objects: bytes) -> Tuple[RowCounts, bool]:
     """The counts of the rows, and whether no script that keeps equal items is shorter: the last object has both."""
     told = json.loads(objects[objects.rfind(b"\n", 0, -1) + 1:])
-    return RowCounts(told["same"], told["removed"], told["added"], told["changed"]), told["shortest"]
+    counts = RowCounts(told["same"], told["removed"], told["added"], told["changed"])
+    if "left_out" in told:
+        left, right = told["left_out"]
+        counts.left_out = left, right
+    return counts, told["shortest"]
 
 
-def pairs_of(text: bytes) -> List[Pair]:
-    """The pairs of the lines that tell of them."""
-    return [_pair(fields) for fields in _rows(text)]
+def pairs_of(objects: bytes) -> List[Pair]:
+    """The pairs of the objects that tell of them."""
+    return [_pair(json.loads(line)) for line in objects.splitlines()]
 
 
-def _pair(fields: List[str]) -> Pair:
-    number, _, tester, _, unit = fields
-    return Pair(int(number), _identifier(tester), _identifier(unit))
+def _pair(told: Dict[str, Any]) -> Pair:
+    return Pair(told["credits"], _identifier(told["tester"]), _identifier(told["unit"]), told["requests"])
 
 
 def _identifier(digits: str) -> int:

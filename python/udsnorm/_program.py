@@ -14,12 +14,12 @@ import subprocess
 import sys
 import threading
 from pathlib import Path
-from typing import IO, Dict, Iterable, List, Optional, Sequence, Union
+from typing import IO, Dict, Iterable, List, Optional, Sequence, Tuple, Union
 
 from ._formats import HEAD, Fault, Log, decides, is_for_the_program, shown
 
 #: The options of the program that take a value.
-VALUED = ("--tester", "--unit", "--limit")
+VALUED = ("--tester", "--unit", "--profile", "--only", "--limit")
 # The commands over two logs alone, which never read standard input, and those whose text shows the names of logs.
 _OF_TWO, _SHOWING = ("compare", "diff"), ("diff", "report")
 # The options that make it tell of itself, and read nothing.
@@ -73,6 +73,22 @@ def logs_in(words: Sequence[str]) -> List[int]:
         is_behind = is_behind or (word == "--" and not is_value)
         is_value = word in VALUED and not (is_value or is_behind)
     return places if words and not words[0].startswith("-") else []
+
+
+def profiles_in(words: Sequence[str]) -> List[Tuple[int, str]]:
+    """The places of the words that name profiles, each with what stands in front of the name there: a word behind the option,
+    which is no value of another one, or the option with its value."""
+    places: List[Tuple[int, str]] = []
+    is_value = False
+    for at, word in enumerate(words[1:], 1):
+        if word == "--" and not is_value:
+            break
+        if is_value and words[at - 1] == "--profile":
+            places.append((at, ""))
+        elif not is_value and word.startswith("--profile="):
+            places.append((at, "--profile="))
+        is_value = word in VALUED and not is_value
+    return places
 
 
 def reads_standard_input(words: Sequence[str]) -> bool:

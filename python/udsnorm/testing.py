@@ -3,9 +3,10 @@
 from __future__ import annotations
 
 import os
-from typing import Callable, Iterator, Union
+from typing import Callable, Iterator, Optional, Union
 
-from . import LIMIT, TESTER, UNIT, Identifier, Log, _compared, _diff_text, _formats, _library, _pair_page, _settings
+from . import LIMIT, TESTER, UNIT, Identifier, Log, Profile
+from . import _compared, _diff_text, _formats, _library, _pair_page, _settings
 
 __all__ = ["assert_same_session"]
 
@@ -20,6 +21,8 @@ def assert_same_session(
     tester: Identifier = TESTER,
     unit: Identifier = UNIT,
     limit: int = LIMIT,
+    profile: Optional[Profile] = None,
+    only: Optional[str] = None,
     page: "Union[None, str, bytes, os.PathLike[str]]" = None,
     clean: bool = False,
 ) -> None:
@@ -29,7 +32,7 @@ def assert_same_session(
 
     Settings and other errors are those of `udsnorm.normalise`."""
     __tracebackhide__ = True
-    settings = _settings(tester, unit, limit)
+    settings = _settings(tester, unit, limit, profile, only)
     answer, one, other = _compared(left, right, settings)
     is_unclean = clean and not answer.clean
     if answer.item == 0 and not is_unclean:

@@ -10,8 +10,8 @@ _udsnorm()
         words=$(sed -nE 's/^  ([a-z]+)  .*/\1/p' <<< "$help")
     else
         help=$("${COMP_WORDS[0]}" "${COMP_WORDS[1]}" --help 2> /dev/null)
-        [[ $before == --* && $help == *" $before <"* ]] && return
-        if [[ $word != -* ]]; then
+        [[ $before == --* && $help == *" $before <"* && $help != *" $before <FILE>"* ]] && return
+        if [[ $word != -* || $help == *" $before <FILE>"* ]]; then
             compopt -o filenames
             mapfile -t COMPREPLY < <(compgen -f -- "$word")
             return

@@ -2,9 +2,9 @@
 cites.
 
 In the page for callers, each clause of a public function stands in the rows, items and paragraphs that name the function or its
-type. What all runs of a kind promise is one clause `ran`, a record. Its fields are clauses, too; they stand there, or in the item
-that begins with the record, of the page of a crate that has such records. A call needs no row where these items say all of its
-clauses.
+type. What all runs of a kind promise is one clause `ran`, a record, and how a run reads is one, `way`. Its fields are clauses, too;
+they stand there, or in the item that begins with the record, of the page of a crate that has such records. A call needs no row
+where these items say all of its clauses.
 
 In docs/proved.md a column of each table cites clauses, in parts between semicolons. Of these are the names in backticks read:
 
@@ -107,7 +107,9 @@ def read_functions(source):
 # The files with the records of runs.
 RUNS = ["trace_run/specs/Ran.antt", *(f"trace_canon/specs/{name}.antt" for name in ("WaysOfReading", "WrittenAtEnd", "ItemText", "Finding", "ReadOnly", "Sessions"))]
 OF_RUNS = ("trace_run", "trace_canon")
-RUN = "ran"
+
+# The clauses that are such a record: what all runs of a kind promise, and how a run reads.
+RUN, WAY = "ran", "way"
 
 
 def run_of(folder, name):
@@ -120,6 +122,11 @@ def run_of(folder, name):
         more, of_more = run_of(folder, below)
         names, fields = names + more, [field for field in fields if field[1] != below] + of_more
     return names, fields
+
+
+def record_of(texts):
+    """The clause of a function that is a record of runs, if one is."""
+    return next((clause for clause in (RUN, WAY) if clause in texts), None)
 
 
 def exported(root):
@@ -142,7 +149,8 @@ def functions(crate):
     found = []
     for path in files:
         for of, name, texts, is_public, words in functions_in(path.read_text()):
-            run, fields = run_of(crate.parent, re.search(r"\w+", texts[RUN])[0]) if RUN in texts else ([], [])
+            record = record_of(texts)
+            run, fields = run_of(crate.parent, re.search(r"\w+", texts[record])[0]) if record else ([], [])
             clauses = list(dict.fromkeys([*(clause for clause in texts if clause != REQUIRES), *(field for field, _ in fields)]))
             is_in_module = path.stem in modules and of is None
             is_seen = is_public and (is_in_module or (of or name) in names)

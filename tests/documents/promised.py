@@ -51,7 +51,7 @@ class Promised:
 
     def add(self, crate, function, names):
         """Adds these clauses of a function, what it requires, and the definitions that they name."""
-        cited = {name if name in function.texts else clauses.RUN for name in names} | {clauses.REQUIRES}
+        cited = {name if name in function.texts else clauses.record_of(function.texts) for name in names} | {clauses.REQUIRES}
         file, used, scope = self.source(crate, function)
         for name in cited & set(function.texts):
             text = function.texts[name]

@@ -1,6 +1,6 @@
 #!/usr/bin/env python3
-"""Tests of README.md, docs/questions.md, docs/recipes.md and docs/formats.md, and where the folder of the library is given, of docs/python.md and
-of what the Python package does: their commands, taken out of the page itself, print what it shows.
+"""Tests of README.md, docs/tutorial.md, docs/questions.md, docs/recipes.md and docs/formats.md, and where the folder of the library is given, of
+docs/python.md and of what the Python package does: their commands, taken out of the page itself, print what it shows.
 
     tests/documents/recipes.py crates/udsnorm/out/udsnorm [out/lib]
 
@@ -12,7 +12,7 @@ end where its set-up does. Its blocks are:
 - `console TOOL...`: commands, each after `$`, and what they print. Where a tool is missing the block is skipped, by the tool's
   name. One of `candump` needs a bus and is always skipped; `vcan0` is an interface, `package` the Python package with its
   library, and `pandas`, `pytest` and `python-can` are modules of Python;
-- `sh NAME`, `python NAME`: a script, saved as NAME at its place, executable; the prose above says "Save as `NAME`";
+- `python NAME`: a script, saved as NAME at its place; the prose above says "Save as `NAME`";
 - `yaml`: a job of CI, which installs the Debian package first, and whose commands then stand in blocks of its section, too; one
   has `--strict`, and the files that it keeps are there at the end.
 
@@ -32,7 +32,7 @@ sys.path.insert(0, str(Path(__file__).resolve().parents[1] / "helpers"))
 from cases import Cases
 
 TOP = Path(__file__).resolve().parents[2]
-PAGES = [TOP / "README.md", *(TOP / "docs" / f"{name}.md" for name in ("questions", "recipes", "formats"))]
+PAGES = [TOP / "README.md", *(TOP / "docs" / f"{name}.md" for name in ("tutorial", "questions", "recipes", "formats"))]
 OF_PYTHON = TOP / "docs" / "python.md"
 
 # Modules of Python that blocks ask for, by the names of the tools.
@@ -134,7 +134,7 @@ def answers(lines, environment):
 
 def saving(name, text):
     """The command that saves a script."""
-    return "\n".join([f"cat > {name} <<'END_OF_SCRIPT'", *text, "END_OF_SCRIPT", f"chmod +x {name}"])
+    return "\n".join([f"cat > {name} <<'END_OF_SCRIPT'", *text, "END_OF_SCRIPT"])
 
 
 def set_up(blocks, folder):
@@ -147,7 +147,7 @@ def steps_of(page, blocks, environment):
     """What a section has to run, each with what it has to print: a script to save, or a command."""
     for words, line, text in blocks:
         kind, names = (words + [""])[0], words[1:]
-        if kind in ("sh", "python") and names:
+        if kind == "python" and names:
             yield saving(names[0], text), []
         elif kind == "console":
             lack = missing_tool(names, environment)
@@ -191,7 +191,7 @@ def run_job(cases, title, job, commands_run, folder):
 
 def scripts_are_named(cases, page):
     """A rendered page shows no name behind a fence: the prose right above each script says it."""
-    for above, name in re.findall(r"^(.*)\n+```(?:sh|python) (\S+)$", page.read_text(), re.M):
+    for above, name in re.findall(r"^(.*)\n+```python (\S+)$", page.read_text(), re.M):
         cases.report(f"{page.name} says to save {name}", [] if f"ave as `{name}`" in above else [f"above it stands {above!r}"])
 
 

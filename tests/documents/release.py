@@ -40,6 +40,7 @@ SHIPPED = {
     "share/bash-completion/completions/udsnorm",
     "share/zsh/site-functions/_udsnorm",
     "share/fish/vendor_completions.d/udsnorm.fish",
+    "share/udsnorm/profiles/bench.toml",
     *DOCUMENTS,
 }
 PACKAGED = {
@@ -48,6 +49,7 @@ PACKAGED = {
     "usr/share/bash-completion/completions/udsnorm",
     "usr/share/zsh/vendor-completions/_udsnorm",
     "usr/share/fish/vendor_completions.d/udsnorm.fish",
+    "usr/share/udsnorm/profiles/bench.toml",
     "usr/share/doc/udsnorm/copyright",
     "usr/share/doc/udsnorm/changelog.gz",
     "usr/share/doc/udsnorm/changelog.Debian.gz",
@@ -59,7 +61,7 @@ LIBRARIES = "usr/lib/x86_64-linux-gnu"
 NUMBER = (TOP / "library" / "SONAME").read_text().strip()
 PYTHON = "usr/lib/python3/dist-packages"
 MODULES = {
-    "py.typed", "__init__.py", "__main__.py", "_library.py", "_lines.py", "_program.py", "testing.py",
+    "py.typed", "__init__.py", "__main__.py", "_library.py", "_lines.py", "_profile.py", "_program.py", "testing.py",
     "_formats/__init__.py", "_formats/asc.py", "_formats/blf.py", "_formats/candump.py", "_formats/captures.py", "_formats/csv.py", "_formats/frames.py",
     "_formats/messages.py", "_formats/opened.py", "_formats/packed.py", "_formats/screen.py", "_formats/texts.py", "_formats/trc.py",
 }

@@ -109,12 +109,12 @@ def manual_is_well_formed(cases):
     cases.report("the manual page as groff sees it", [done.stderr] if done.stderr or done.returncode else [])
 
 
-def offered(shell, program, words):
+def offered(shell, program, words, folder=None):
     """What a shell offers for these words behind the program's name, of that what begins with the last one, sorted."""
     name = program.name if shell == "fish" else program
     asked = [shell, *(["--no-config"] if shell == "fish" else []), "-c", SHELLS[shell], COMPLETIONS, name, *words]
     path = {"PATH": f"{program.parent}:{os.environ['PATH']}"}
-    done = subprocess.run(asked, capture_output=True, text=True, timeout=60, env=os.environ | path)
+    done = subprocess.run(asked, capture_output=True, text=True, timeout=60, env=os.environ | path, cwd=folder)
     return sorted(word for word in done.stdout.split() if word.startswith(words[-1])) + done.stderr.splitlines()
 
 
@@ -131,6 +131,9 @@ def shells_complete(cases):
             options = [option for option in options_of(cases.program, command) if option.startswith("--")]
             wrong += differences(f"options of {command}", offered(shell, program, [command, "--"]), sorted(options))
         cases.report(f"{shell} completes commands and options", wrong)
+        if shell != "zsh":
+            found = [offered(shell, program, ["list", option, "be"], TOP / "share" / "profiles") for option in ("--profile", "--only", "--limit")]
+            cases.report(f"{shell} completes the file of a profile", differences("what is offered", found, [["bench.toml"], [], []]))
 
 
 def install_is_undone(cases):
@@ -140,7 +143,7 @@ def install_is_undone(cases):
         status, told, _ = make("-n", goal, "DESTDIR=/stage", "PREFIX=/usr")
         wrong += [] if status == 0 else [f"{goal} ends with {status}"]
         plan[goal] = set(re.findall(r"/stage/\S+", told))
-    wrong += [] if len(plan["install"]) == 12 else [f"{len(plan['install'])} files"]
+    wrong += [] if len(plan["install"]) == 13 else [f"{len(plan['install'])} files"]
     wrong += sorted(plan["install"] ^ plan["uninstall"])
     cases.report("uninstall removes what install puts somewhere", wrong)
 

@@ -12,7 +12,7 @@ TOP = Path(__file__).resolve().parents[2]
 CRATE = TOP / "crates" / "udsnorm_c" / "src"
 HEADER = TOP / "library" / "udsnorm.h"
 
-# How C writes the type of a parameter. A slice is a pointer and a length, of signs where it is the name of a log; the allocator
+# How C writes the type of a parameter. A slice is a pointer and a length, of signs where it is the name of a log or a unit; the allocator
 # takes no bytes.
 IN_C = {
     "Global": [],
@@ -62,7 +62,7 @@ def calls():
     source = (CRATE / "lib.rt").read_text()
     for name, parameters, result in re.findall(r'#\[unsafe\(no_mangle\)\]\npub extern "C" fn (\w+)\(([^)]*)\) -> (\w+)\b', source):
         typed = [[word.strip() for word in part.split(":", 1)] for part in parameters.split(",") if ":" in part]
-        yield name, RESULTS_IN_C[result], [c for word, of in typed for c in IN_C["name" if word.endswith("name") else of]]
+        yield name, RESULTS_IN_C[result], [c for word, of in typed for c in IN_C["name" if word == "only" or word.endswith("name") else of]]
 
 
 def words_length():

@@ -27,8 +27,8 @@ OF_ONE_STYLE = ("normalise", "report")
 # What a page of the program calls the log that comes by standard input.
 NAME = b"standard input"
 
-# A log with the identifiers of its sides, as canid_t has them, and a limit.
-Session = namedtuple("Session", "name log tester unit limit")
+# A log with the identifiers of its sides, as canid_t has them, and a limit; the text of a profile, and the name of a unit.
+Session = namedtuple("Session", "name log tester unit limit profile only", defaults=(b"", b""))
 
 
 class Answer(ctypes.Structure):
@@ -52,9 +52,9 @@ class Loaded:
     def text(self, job, session, room=None):
         """What a call answers, and the text, for which there is this room, or else enough."""
         call = JOBS[job][0]
-        sides = [ctypes.c_uint32(session.tester), ctypes.c_uint32(session.unit)] if call != "find" else []
+        sides = settings(session) if call != "find" else [ctypes.c_uint64(session.limit)]
         style = [] if call in OF_ONE_STYLE else [ctypes.c_uint32(STYLES.get(job, 0))]
-        given = [*sides, ctypes.c_uint64(session.limit), *style, *(bytes_of(NAME) if call == "report" else []), *bytes_of(session.log)]
+        given = [*sides, *style, *(bytes_of(NAME) if call == "report" else []), *bytes_of(session.log)]
         if room is None and call == "report":
             room = self.put(call, given, 0)[0].length
         return self.put(call, given, (8 if "objects" in job else 4) * len(session.log) + 512 if room is None else room)
@@ -69,24 +69,28 @@ class Loaded:
 
     def page(self, session, other, names, room=None):
         """The same of the page of two logs with these names."""
-        sides = [ctypes.c_uint32(session.tester), ctypes.c_uint32(session.unit), ctypes.c_uint64(session.limit)]
+        sides = settings(session)
         given = [*sides, *bytes_of(names[0]), *bytes_of(session.log), *bytes_of(names[1]), *bytes_of(other)]
         return self.put("report_pair", given, self.put("report_pair", given, 0)[0].length if room is None else room)
 
     def diff(self, style, session, other, names, room=None):
         """The same of where two logs with these names differ, in this style."""
-        sides = [ctypes.c_uint32(session.tester), ctypes.c_uint32(session.unit), ctypes.c_uint64(session.limit)]
+        sides = settings(session)
         given = [*sides, ctypes.c_uint32(style), *bytes_of(names[0]), *bytes_of(session.log), *bytes_of(names[1]), *bytes_of(other)]
         size = len(session.log) + len(other) + sum(map(len, names))
         return self.put("diff", given, (16 if style else 4) * size + 512 if room is None else room)
 
     def compare(self, session, other):
-        answer = Answer()
-        self.library.udsnorm_compare(
-            ctypes.c_uint32(session.tester), ctypes.c_uint32(session.unit), ctypes.c_uint64(session.limit),
-            *bytes_of(session.log), *bytes_of(other), ctypes.byref(answer),
-        )
-        return answer
+        return self.put("compare", [*settings(session), *bytes_of(session.log), *bytes_of(other)], 0)[0]
+
+    def wrong(self, session):
+        """What is told of a wrong profile, where its log is compared with none."""
+        return self.put("compare", [*settings(session), *bytes_of(session.log), *bytes_of(b"")], 4096)
+
+
+def settings(session):
+    sides = [ctypes.c_uint32(session.tester), ctypes.c_uint32(session.unit), ctypes.c_uint64(session.limit)]
+    return [*sides, *bytes_of(session.profile), *bytes_of(session.only)]
 
 
 def bytes_of(data):

@@ -64,11 +64,6 @@ def comparison_object(line):
     return {"same": False, "item": int(found[1])} if found else {"same": line == "same"}
 
 
-def credit_object(line):
-    number, _, tester, _, unit = line.split(" ")
-    return {"credits": int(number), "tester": tester, "unit": unit}
-
-
 def named(names, words):
     return dict(zip(names.split(" "), words))
 
@@ -77,6 +72,5 @@ OBJECTS = {
     "list": item_object,
     "explain": event_object,
     "messages": message_object,
-    "find": credit_object,
     "compare": comparison_object,
 }

@@ -13,7 +13,7 @@ import itertools
 import json
 import re
 import sys
-from collections import namedtuple
+from collections import Counter, namedtuple
 
 TESTER, UNIT = "tester", "unit"
 OTHER = {TESTER: UNIT, UNIT: TESTER}
@@ -663,26 +663,62 @@ def begun_in(entry):
 
 
 def credited(said):
-    """The pair of each answer that is credited: who asked last for its service, where nobody answered it since."""
+    """The pair of each answer that is credited: who asked last for its service, where its sender hasn't answered that yet."""
     for place, answer in enumerate(said):
-        before = [other for other in said[:place] if other.service == answer.service]
-        if answer.answers and before and not before[-1].answers and before[-1].identifier != answer.identifier:
-            yield before[-1].identifier, answer.identifier
+        if answer.answers:
+            asked = [p for p in range(place) if said[p].service == answer.service and not said[p].answers]
+            if asked and said[asked[-1]].identifier != answer.identifier and answer not in said[asked[-1] : place]:
+                yield said[asked[-1]].identifier, answer.identifier
+
+
+def partner_of(unit):
+    """The identifier that asks this one where both keep to ISO 15765-4 or to normal fixed addressing."""
+    if re.fullmatch("7E[89A-F]", unit):
+        return f"{int(unit, 16) - 8:03X}"
+    fixed = re.fullmatch("18DA(..)(..)", unit)
+    return f"18DA{fixed[2]}{fixed[1]}" if fixed and fixed[1] != fixed[2] else None
+
+
+def is_functional(identifier):
+    return re.fullmatch("7DF|18DB....", identifier) is not None
 
 
 def pairs_in(lines):
-    """Each pair with the number of its credits, in the order in which they are told."""
-    pairs = list(credited([said for _, said in sorted(said_in(lines))]))
-    return sorted((-pairs.count(pair), *pair) for pair in set(pairs))
+    """Each unit that has a credit, with its tester, that one's credits of it, and its requests, in the order in which they are
+    told."""
+    said = [each for _, each in sorted(said_in(lines))]
+    credits = Counter(credited(said))
+    requests = Counter(each.identifier for each in said if not each.answers)
+    testers = {unit: tester_of(unit, credits, requests) for _, unit in credits}
+    return sorted((-credits[tester, unit], tester, unit, requests[tester]) for unit, tester in testers.items())
+
+
+def tester_of(unit, credits, requests):
+    """A unit's partner, where that asks; or else who has credits of it: rather one that isn't functional, with the most."""
+    if partner_of(unit) in requests:
+        return partner_of(unit)
+    return min((is_functional(tester), -number, tester) for (tester, one), number in credits.items() if one == unit)[-1]
 
 
 def pairs_text(pairs):
-    return "".join(f"{-credits} --tester {tester} --unit {unit}\n" for credits, tester, unit in pairs)
+    return "".join(f"{-credits} --tester {tester} --unit {unit}\n" for credits, tester, unit, _ in pairs)
 
 
 def pairs_objects(pairs):
-    objects = ({"credits": -credits, "tester": tester, "unit": unit} for credits, tester, unit in pairs)
-    return "".join(json.dumps(each, separators=(",", ":")) + "\n" for each in objects)
+    return "".join(
+        json.dumps({"credits": -credits, "requests": requests, "tester": tester, "unit": unit}, separators=(",", ":")) + "\n"
+        for credits, tester, unit, requests in pairs
+    )
+
+
+def pairs_profile(pairs):
+    """The first 64 pairs as the units of a profile."""
+    units = [
+        f"# {-credits} of {requests} requests answered\n[[unit]]\n"
+        f'name = "{tester}-{unit}"\ntester = "{tester}"\nunit = "{unit}"\n'
+        for credits, tester, unit, requests in pairs[:64]
+    ]
+    return "\n".join(units) or "# nobody answered\n"
 
 
 # --- The outcome --------------------------------------------------------------------------------------------------------

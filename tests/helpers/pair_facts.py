@@ -6,6 +6,7 @@ from collections import namedtuple
 
 import difference_oracle
 import oracle
+import profiles
 import report_facts
 import report_reader
 import standard_names
@@ -13,8 +14,9 @@ from difference_oracle import ADDED, CHANGED, REMOVED, SAME
 
 # How the program ends over two logs and what it tells then; the items of both, where both can be read, and else the letter of the one that
 # can't; and of both whether it is clean, and whether its sides look exchanged; the charts of both, where they differ; what is found of each
-# recording; what is missing of each log, by items; and whether something is in front of its first item.
-Came = namedtuple("Came", "status fault items refused clean exchanged charts recordings losses fronts", defaults=(None, None, None))
+# recording; what is missing of each log, by items; whether something is in front of its first item; and each rule, with of how many messages
+# of each log it spoke.
+Came = namedtuple("Came", "status fault items refused clean exchanged charts recordings losses fronts rules", defaults=(None, None, None, ()))
 
 # A recording: its state up to the counts, how many items it has, when its first frame was, and how long it is.
 Recording = namedtuple("Recording", "state items first length")
@@ -48,24 +50,27 @@ MOST_ROWS, MOST_BEFORE = 40, 8
 ALL_COLUMNS, OTHER_LINES, MOST_COLUMNS, WIDTH = 64, 8, 4095, 16
 
 
-def came_of(left, right, limit=oracle.GIBIBYTE, sides=oracle.SIDES, is_strict=False):
-    """How the program ends over two logs, of which each is refused as `explain` refuses it, the left one first. Where they have to be
-    clean, it is told which are not."""
+def came_of(left, right, limit=oracle.GIBIBYTE, sides=oracle.SIDES, is_strict=False, rules=()):
+    """How the program ends over two logs under rules, of which each is refused as `explain` refuses it, the left one first. Where they have
+    to be clean, it is told which are not."""
     for letter, side, log in (("A", "left", left), ("B", "right", right)):
         refused = oracle.refusal(log, limit, is_long_refused=False)
         if refused:
             return Came(oracle.REFUSED, f"{side}: {refused.fault}", None, letter, None, None, None)
     frames = [oracle.trace(oracle.cut(log), sides) for log in (left, right)]
-    sessions = [oracle.messages(trace) for trace in frames]
+    sessions = [profiles.under(rules, oracle.messages(trace)) for trace in frames]
     items = [oracle.meaning(session) for session in sessions]
     unclean = [oracle.unclean(log, sides) for log in (left, right)]
     told = [f"{side}: {fault}" for side, fault in zip(("left", "right"), unclean) if is_strict and fault]
     status = oracle.UNCLEAN if told else oracle.DONE if items[0] == items[1] else oracle.DIFFERENT
     exchanged = [oracle.look_exchanged(session) for session in sessions]
-    charts = None if items[0] == items[1] else charts_of(frames, items)
+    rows = [all_rows(trace, rules) for trace in frames]
+    charts = None if items[0] == items[1] else charts_of(frames, rows, items)
     recordings = [recording_of(*log) for log in zip(frames, items, unclean, exchanged)]
-    losses, fronts = [losses_of(trace) for trace in frames], [begins_with_loss(trace) for trace in frames]
-    return Came(status, "\n".join(told) or None, items, None, [not fault for fault in unclean], exchanged, charts, recordings, losses, fronts)
+    losses, fronts = [losses_of(log) for log in rows], [begins_with_loss(log) for log in rows]
+    told_rules = [report_reader.Rule(profiles.told_rule(rule), tuple(map(str, spoken))) for rule, *spoken in zip(rules, *(profiles.spoken(rules, trace) for trace in frames))]
+    clean = [not fault for fault in unclean]
+    return Came(status, "\n".join(told) or None, items, None, clean, exchanged, charts, recordings, losses, fronts, told_rules)
 
 
 def recording_of(frames, items, unclean, exchanged):
@@ -109,13 +114,13 @@ def changes_of(rows):
     return changes
 
 
-def charts_of(frames, items):
-    """The charts of two logs around their first difference."""
+def charts_of(frames, told, items):
+    """The charts of two logs with these frames and rows around their first difference."""
     rows = rows_of(*items)
     first = changes_of(rows)[0]
     lacking = {ADDED: 0, REMOVED: 1}.get(first.kind)
     counts = [0 if side == lacking else first.count for side in (0, 1)]
-    return [chart_of(trace, first.first, counts[side], beside(rows, items, side)) for side, trace in enumerate(frames)]
+    return [chart_of(trace, told[side], first.first, counts[side], beside(rows, items, side)) for side, trace in enumerate(frames)]
 
 
 def beside(rows, items, side):
@@ -126,11 +131,10 @@ def beside(rows, items, side):
     return pairs, side
 
 
-def chart_of(frames, item, count, others):
+def chart_of(frames, rows, item, count, others):
     """The chart of a log around the item of this place, counted from 0, of so many that the difference has from that on. It goes from the row
     with which the item before begins, or from the request in whose exchange that row stands, to before the first request at or behind the
     row with which the second item behind begins. With the first item it has what is lost in front of it."""
-    rows = all_rows(frames)
     begun = [place for place, row in enumerate(rows) if isinstance(row, report_facts.Message) and row.asked is None]
     begun += 3 * [len(rows)]
     requests = [place for place in begun[:-3] if rows[place].kind == report_facts.REQUEST]
@@ -144,9 +148,9 @@ def chart_of(frames, item, count, others):
     return Chart(told, end - last, left, last == len(rows))
 
 
-def all_rows(frames):
-    """The rows of a log, with those at its end."""
-    return [*report_facts.rows_of(frames), *report_facts.end_rows(frames)] if frames else []
+def all_rows(frames, rules):
+    """The rows of a log under rules, with those at its end."""
+    return [*report_facts.rows_of(frames, rules), *report_facts.end_rows(frames, rules)] if frames else []
 
 
 def numbers_of(rows):
@@ -175,7 +179,13 @@ def marked_lines(row, pair, side):
         messages = [item.answer for item in pair]
     else:
         return []
-    return [(lines_of(*messages, only=side), counts_of(*messages, only=side))] if messages[0] != messages[1] else []
+    stand_beside = messages[0] != messages[1] and not are_masked(*messages)
+    return [(lines_of(*messages, only=side), counts_of(*messages, only=side))] if stand_beside else []
+
+
+def are_masked(one, other):
+    """Whether a mask speaks of one of two messages. Their bytes don't stand under each other."""
+    return any(isinstance(message, profiles.Masked) for message in (one, other))
 
 
 def shown_of(rows):
@@ -282,9 +292,9 @@ def counts_of(one, other, only=None):
 # --- What is missing ----------------------------------------------------------------------------------------------------
 
 
-def losses_of(frames):
-    """What is missing of a log, by the places of its items: each loss belongs to the item that began last before it, or to the first."""
-    rows = all_rows(frames)
+def losses_of(rows):
+    """What is missing of a log with these rows, by the places of its items: each loss belongs to the item that began last before it, or to
+    the first."""
     begun = [place for place, row in enumerate(rows) if isinstance(row, report_facts.Message) and row.asked is None]
     losses = {}
     for place, row in enumerate(rows):
@@ -297,9 +307,9 @@ def is_loss(row):
     return not isinstance(row, (report_facts.Message, report_facts.NoAnswer))
 
 
-def begins_with_loss(frames):
+def begins_with_loss(rows):
     """Whether something is missing in front of the first item of a log: of the messages the first one always begins an item."""
-    return any(map(is_loss, all_rows(frames)[:1]))
+    return any(map(is_loss, rows[:1]))
 
 
 def loss_words(row):
@@ -375,10 +385,12 @@ def notes_of(came, rows, changes):
 
 
 def look_of(came):
-    """The look of a verdict: green where both sessions are the same without a doubt, and that has something to say."""
+    """The look of a verdict: green where both sessions are the same without a doubt, and that has something to say; under rules another
+    one, and never green."""
     ours, theirs = came.items
     asked = any(isinstance(item, oracle.Exchange) for item in ours)
-    return "good" if ours == theirs and asked and all(came.clean) and not any(came.exchanged) else "warn"
+    is_beyond_doubt = ours == theirs and asked and all(came.clean) and not any(came.exchanged)
+    return ("ruled" if came.rules else "good") if is_beyond_doubt else "warn"
 
 
 def same_heading_of(came):
@@ -388,11 +400,22 @@ def same_heading_of(came):
         return "Neither session has an item"
     clean = tuple(came.clean)
     who = {(False, False): "neither is clean", (False, True): "A is not clean", (True, False): "B is not clean"}.get(clean)
-    heading = "The two sessions are the same" + (f" as far as they are recorded: {who}" if who else "")
+    heading = "The two sessions are the same" + under_words(came.rules) + (f" as far as they are recorded: {who}" if who else "")
     if any(came.exchanged):
         return f"{heading}, but tester and unit look exchanged"
     asked = any(isinstance(item, oracle.Exchange) for item in ours)
     return heading if asked else f"{heading}, and neither has a request"
+
+
+def under_words(rules):
+    return f" under {len(rules)} rule{'' if len(rules) == 1 else 's'}" if rules else ""
+
+
+def same_line_of(came):
+    """The sentence below the heading of two sessions that are the same, if they have an item."""
+    count = len(came.items[0])
+    words = "One item is equal in both, byte for byte." if count == 1 else f"Each of the {count} items is equal in both, byte for byte."
+    return ("Of what the rules leave: " if came.rules else "") + words
 
 
 # --- In words -----------------------------------------------------------------------------------------------------------
@@ -421,7 +444,8 @@ def title_of(item):
 
 def front_of(message):
     more = len(message) - 8
-    return message[:8].hex(" ").upper() + (f" and {more} byte{'' if more == 1 else 's'} more" if more > 0 else "")
+    told = f" and {profiles.at_least(message)}{more} byte{'' if more == 1 else 's'} more" if more > 0 else ""
+    return report_facts.spelled(message[:8]) + told
 
 
 def outcome_behind(item):
@@ -458,20 +482,21 @@ def outcomes_differing(one, other):
 
 
 def bytes_differing(one, other):
-    """Where two messages differ, and how long they are: which bytes one of them has alone, where all others are the same; or at which byte
+    """Where two messages differ, and how long they were: which bytes one of them has alone, where all others are the same; or at which byte
     they differ first, what both have there, and how many more bytes differ."""
     columns = columns_of(one, other)
     places = [place for place, (ours, theirs) in enumerate(columns) if ours != theirs]
-    alone = [[pair[side] for pair in columns if pair[1 - side] is None] for side in (0, 1)]
+    alone = [[place for place, pair in enumerate(columns) if pair[1 - side] is None] for side in (0, 1)]
     if len(places) == max(map(len, alone)):
-        log, own = next((log, own) for log, own in zip("AB", alone) if own)
+        side = next(side for side in (0, 1) if alone[side])
+        log, own = "AB"[side], (one, other)[side][places[0] : places[0] + len(alone[side])]
         where = f"byte {places[0] + 1} only in {log}" if len(own) == 1 else f"{len(own)} bytes only in {log}, from byte {places[0] + 1} on"
-        words = f": {where}: {bytes(own[:8]).hex(' ').upper()}" + (f" and {len(own) - 8} more" if len(own) > 8 else "")
+        words = f": {where}: {report_facts.spelled(own[:8])}" + (f" and {len(own) - 8} more" if len(own) > 8 else "")
     else:
-        names = ["no byte" if byte is None else f"{byte:02X}" for byte in columns[places[0]]]
+        names = ["no byte" if byte is None else report_facts.spelled(message[places[0] : places[0] + 1]) for message, byte in zip((one, other), columns[places[0]])]
         words = f" byte {places[0] + 1}: {names[0]} in A, {names[1]} in B"
         if len(places) > 1:
             words += "; and 1 more byte" if len(places) == 2 else f"; and {len(places) - 1} more bytes"
     if len(one) != len(other):
-        words += f"; {len(one)} byte{'' if len(one) == 1 else 's'} in A, {len(other)} in B"
+        words += f"; {profiles.at_least(one)}{len(one)} byte{'' if len(one) == 1 else 's'} in A, {profiles.at_least(other)}{len(other)} in B"
     return words

@@ -5,11 +5,14 @@ import re
 import oracle
 import pair_facts
 import pair_reader
-import standard_names
+import report_facts
 from difference_oracle import ADDED, CHANGED, REMOVED
 
 # A page lists so many differences.
 LISTED = 50
+
+# A message of a log in a line of its own, where a mask speaks of it.
+MASKED_LINES = re.compile(r'<div><span class="who">([AB])</span> <code>([^<]*)</code>')
 
 # The names of the standards behind the bytes of a message.
 NAMES = re.compile(r"</(?:code|samp|details|i)>((?: <i>\([A-Za-z][^<]*\)</i>)+)")
@@ -54,7 +57,9 @@ def verdict_faults(read, came):
     wrong = [] if read.look == look else [f"the verdict looks {read.look}, not {look}"]
     if came.items[0] == came.items[1] and read.heading != pair_facts.same_heading_of(came):
         wrong.append(f"the heading is {read.heading!r}, not {pair_facts.same_heading_of(came)!r}")
-    return wrong
+    if came.items[0] == came.items[1] != [] and read.same_line != pair_facts.same_line_of(came):
+        wrong.append(f"below the heading stands {read.same_line!r}, not {pair_facts.same_line_of(came)!r}")
+    return wrong + ([] if read.rules == came.rules else [f"the rules are {read.rules}, not {came.rules}"])
 
 
 def chart_faults(read, came):
@@ -136,14 +141,24 @@ def mark_faults(read, ours, theirs):
         if row.kind != CHANGED:
             wrong += ["a row without a change has bytes under bytes"] if row.lines else []
             continue
-        wanted = [pair_facts.lines_of(one, other) for one, other in messages_of(ours[row.left - 1], theirs[row.right - 1])]
+        pairs = messages_of(ours[row.left - 1], theirs[row.right - 1])
+        beside = [pair for pair in pairs if not pair_facts.are_masked(*pair)]
+        wanted = [pair_facts.lines_of(one, other) for one, other in beside]
         told = [[tuple(line) for line in lines] for lines, _ in row.lines]
         if told != wanted:
             wrong.append(f"the bytes of A {row.left}, B {row.right} have other marks")
-        counts = [pair_facts.counts_of(one, other) for one, other in messages_of(ours[row.left - 1], theirs[row.right - 1])]
+        counts = [pair_facts.counts_of(one, other) for one, other in beside]
         if [told for _, told in row.lines] != counts:
             wrong.append(f"of the bytes of A {row.left}, B {row.right} others are counted")
+        lines = [line for pair in pairs if pair_facts.are_masked(*pair) for line in zip("AB", pair)]
+        if MASKED_LINES.findall(row.text) != [(log, report_facts.spelled(message[:shown_bytes(message)])) for log, message in lines]:
+            wrong.append(f"the masked messages of A {row.left}, B {row.right} are told otherwise")
     return wrong
+
+
+def shown_bytes(message):
+    """How many bytes of a message stand there unfolded."""
+    return report_facts.SHOWN_FIRST if len(message) > report_facts.ALL_SHOWN else len(message)
 
 
 def name_faults(read, ours, theirs):
@@ -152,7 +167,7 @@ def name_faults(read, ours, theirs):
     for row in read.rows:
         one, other = (items[number - 1] if number else None for items, number in ((ours, row.left), (theirs, row.right)))
         told = "".join(NAMES.findall(row.text))
-        wanted = "".join(map(standard_names.small, plain_messages(one, other, row.kind)))
+        wanted = "".join(map(report_facts.names_told, plain_messages(one, other, row.kind)))
         wrong += [] if told == wanted else [f"the names of A {row.left}, B {row.right} are {told!r}, not {wanted!r}"]
     return wrong
 
@@ -163,11 +178,18 @@ def plain_messages(one, other, kind):
         item = one or other
         return [item.message] if isinstance(item, oracle.Stray) else [message for message in (item.request, item.answer) if message]
     if isinstance(one, oracle.Stray):
-        return []
-    asked = [one.request] if one.request == other.request else []
+        return each_alone(one.message, other.message)
+    asked = [one.request] if one.request == other.request else each_alone(one.request, other.request)
     if bool(one.answer) == bool(other.answer) and (not one.answer or same_outcome(one.answer, other.answer)):
-        return asked + ([one.answer] if one.answer and one.answer == other.answer else [])
+        if not one.answer:
+            return asked
+        return asked + ([one.answer] if one.answer == other.answer else each_alone(one.answer, other.answer))
     return asked + [answer for answer in (one.answer, other.answer) if answer]
+
+
+def each_alone(one, other):
+    """Two messages that differ, where each stands as it is, since a mask speaks of one."""
+    return [one, other] if pair_facts.are_masked(one, other) else []
 
 
 def recording_faults(read, came):

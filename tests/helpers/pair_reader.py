@@ -7,9 +7,11 @@ import html
 import re
 from collections import namedtuple
 
-# The heading, the sentence below it, the notes behind that, both recordings, the lines of the list, what the first difference is said to
+import report_reader
+
+# The rules, the heading, the sentence below it, the notes behind that, both recordings, the lines of the list, what the first difference is said to
 # be, the charts of both logs there, what is missing of a log without an item, and the rows of the table of items.
-Page = namedtuple("Page", "look heading same_line notes recordings listed first charts alone rows folds identifiers targets")
+Page = namedtuple("Page", "rules look heading same_line notes recordings listed first charts alone rows folds identifiers targets")
 
 # A recording: its state, how many items it has, when its first frame was, and how long it is.
 Recording = namedtuple("Recording", "state items first length")
@@ -213,7 +215,9 @@ def read(page):
     alone = ALONE.search(page)
     if not alone:
         raise ValueError("the items begin in another way")
+    rules = report_reader.RULES.search(page)
     return Page(
+        report_reader.rules_of(rules and rules[0], set()),
         verdict[1],
         verdict[3],
         paragraphs[0] if paragraphs else None,

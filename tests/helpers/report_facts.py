@@ -13,12 +13,18 @@ from pathlib import Path
 
 import causes
 import oracle
+import profiles
 import standard_names
 from oracle import GIBIBYTE, SIDES, TESTER, UNIT, Outcome
-from report_reader import Block, Count, Facts, Link, Look, Row, Verdict, golden_words, read, rows_in
+from report_reader import Block, Count, Facts, Link, Look, Row, Rule, Verdict, golden_words, read, rows_in
 
-WRITER = Path(__file__).resolve().parents[2] / "scripts" / "report-style"
+TOP = Path(__file__).resolve().parents[2]
+WRITER = TOP / "scripts" / "report-style"
 STYLE = subprocess.run([WRITER, "report", "css"], check=True, capture_output=True, text=True, timeout=60).stdout
+
+# What the style of a page under rules has besides.
+RULES_SOURCE = (TOP / "crates" / "trace_report" / "src" / "rules_style.rt").read_text()
+RULES_STYLE = re.search(r'const RULES_STYLE: &str = "\\\n(.*?)";', RULES_SOURCE, re.DOTALL)[1]
 
 STANDARD_INPUT = b"standard input"
 
@@ -39,10 +45,10 @@ REPLIES = ("positive", "negative")
 REQUEST = "request"
 
 
-def rows_of(frames):
-    """The rows of these frames, in their order: what a frame ends, and then why it is dropped, or the message that it completes.
+def rows_of(frames, rules=()):
+    """The rows of these frames under rules, in their order: what a frame ends, and then why it is dropped, or the message that it completes.
     Before a request stands that the request before has no answer."""
-    messages = {row.last.line: row for row in messages_of(frames)}
+    messages = {row.last.line: row for row in messages_of(frames, rules)}
     missing = missing_answers(messages.values())
     rows = []
     for p, entry in enumerate(frames):
@@ -54,18 +60,20 @@ def rows_of(frames):
     return rows
 
 
-def end_rows(frames):
+def end_rows(frames, rules=()):
     """The rows of the end of a log: what it ends in, and that its last request has no answer."""
     begun = [(side, oracle.reception(frames, side, len(frames))) for side in (TESTER, UNIT)]
     unfinished = [Unfinished(side, frames[standing[0]]) for side, standing in begun if standing]
-    missing = missing_answers(messages_of(frames))
+    missing = missing_answers(messages_of(frames, rules))
     return unfinished + [row for later, row in missing.items() if later is None]
 
 
-def messages_of(frames):
-    """The row of each message. To which item it belongs, all messages together say."""
-    ends = [p for p in range(len(frames)) if oracle.delivered(frames, p) is not None]
-    listed = oracle.messages(frames)
+def messages_of(frames, rules):
+    """The row of each message that the rules leave, as they leave it. To which item it belongs, all of these together say."""
+    delivered = [(p, oracle.delivered(frames, p)) for p in range(len(frames))]
+    made = [(p, profiles.made_of(rules, message)) for p, message in delivered if message is not None]
+    ends = [p for p, message in made if message is not None]
+    listed = [(frames[p].direction, message) for p, message in made if message is not None]
     parts = oracle.parts_of(listed)
     asked = {item: frames[p].micros for p, (item, role) in zip(ends, parts) if role == REQUEST}
     return [
@@ -142,7 +150,7 @@ def row_told(origin, row, is_brief=False):
 def message_told(origin, row, is_brief):
     lines = (f"{row.first.line}",) if row.first.line == row.last.line else (f"{row.first.line}", f"{row.last.line}")
     begins_item = row.asked is None
-    data = brief_data(row) if is_brief else {**data_told(row.data), "names": standard_names.small(row.data)}
+    data = brief_data(row) if is_brief else {**data_told(row.data), "names": names_told(row.data)}
     said = {**said_of_kind(row), **data, **note_told(row, is_brief)}
     identifier = target(row) if begins_item else None
     return Row(row.kind, identifier, f"{row.item}", begins_item, lines, seconds(origin, row.last.micros), row.side, is_brief, said)
@@ -168,9 +176,14 @@ def data_told(data):
     return {"shown": spelled(front), "hidden": f"{len(rest)}"}
 
 
+def names_told(data):
+    """The names of the standards. There are none behind a message that is masked."""
+    return "" if isinstance(data, profiles.Masked) else standard_names.small(data)
+
+
 def brief_data(row):
     more = len(row.data) - SHOWN_FIRST
-    return {"shown": spelled(row.data[:SHOWN_FIRST]), **({"hidden": f"{more}"} if more > 0 else {})}
+    return {"shown": spelled(row.data[:SHOWN_FIRST]), **({"hidden": f"{profiles.at_least(row.data)}{more}"} if more > 0 else {})}
 
 
 def spelled(data):
@@ -178,12 +191,16 @@ def spelled(data):
 
 
 def letters_told(data):
-    return {"letters": re.sub(rb"[^ %s]" % MARK, b".", data).decode()} if re.search(rb"[%s]{4}" % MARK, data) else {}
+    """The last bytes of a message as letters, where they may be text; `*` is none of these, and stands where the message is cut off."""
+    star = "*" if profiles.at_least(data) else ""
+    return {"letters": re.sub(rb"[^ %s]" % MARK, b".", data).decode() + star} if re.search(rb"[%s]{4}" % MARK, data) else {}
 
 
 def note_told(row, is_brief):
-    """In how many frames a message came, where they are several, and how long after its request it began."""
-    frames = {"length": f"{len(row.data)}", "frames": f"{row.frames}"} if row.frames > 1 and not is_brief else {}
+    """In how many frames a message came, where they are several, and how many bytes they carry, where none was cut off; and how long after
+    its request it began."""
+    length = {} if profiles.at_least(row.data) else {"length": f"{len(row.data)}"}
+    frames = {**length, "frames": f"{row.frames}"} if row.frames > 1 and not is_brief else {}
     return frames if row.asked is None else {**frames, "after": milliseconds(row.asked, row.first.micros)}
 
 
@@ -275,9 +292,9 @@ def block_begin(origin, row):
 LOOKS = ("dropped", "ended", "unfinished", "negative", "no answer", "stray")
 MOST_LINKS = 10
 
-# All counts, as they are told. Behind the first three each is of the rows of its kind.
+# All counts, as they are told. Behind the first four each is of the rows of its kind.
 COUNTS = [
-    "lines", "frames", "messages", "requests", "positive", "negative", "no answer", "silent", "pending", "keep-alive", "stray",
+    "lines", "frames", "messages", "left out", "requests", "positive", "negative", "no answer", "silent", "pending", "keep-alive", "stray",
     "dropped", "ended", "unfinished",
 ]
 LOSSES = ("dropped", "ended", "unfinished")
@@ -294,9 +311,11 @@ def row_kind(row):
 
 
 def counts_of(lines, frames, rows):
-    """How many there are of each thing."""
+    """How many there are of each thing. Messages are those of the log, also those that rules leave out."""
     counts = Counter(map(row_kind, rows))
-    counts.update(lines=len(lines), frames=len(frames), messages=sum(isinstance(row, Message) for row in rows))
+    messages = len(oracle.messages(frames))
+    counts.update({"lines": len(lines), "frames": len(frames), "messages": messages})
+    counts["left out"] = messages - sum(isinstance(row, Message) for row in rows)
     return counts
 
 
@@ -326,7 +345,8 @@ def link_words(row):
 
 
 def counts_told(counts):
-    return [Count(name=name, number=f"{counts[name]}", mark=count_mark(name, counts[name])) for name in COUNTS]
+    told = [name for name in COUNTS if name != "left out" or counts[name]]
+    return [Count(name=name, number=f"{counts[name]}", mark=count_mark(name, counts[name])) for name in told]
 
 
 def count_mark(name, count):
@@ -342,14 +362,14 @@ def span_told(frames):
     return [oracle.stamp(first), oracle.stamp(last), seconds(first, last)]
 
 
-def state(log, frames, counts):
+def state(log, frames, counts, rules):
     """What a recording is that is not refused, what `--strict` tells of it, and what the sentences below say of that."""
     told = unclean_words(log, frames, counts)
-    is_exchanged = oracle.look_exchanged(oracle.messages(frames))
+    is_exchanged = oracle.look_exchanged(profiles.under(rules, oracle.messages(frames)))
     if not told and not is_exchanged:
         return "clean", None, ["whole"]
     kind = " and ".join([*(["not clean"] if told else []), *(["exchanged"] if is_exchanged else [])])
-    return kind if frames else "no frame", told, meant(log, frames, counts) + (["exchanged"] if is_exchanged else [])
+    return kind if frames else "no frame", told, meant(log, frames, counts) + ([sentence_under(rules, "exchanged")] if is_exchanged else [])
 
 
 def unclean_words(log, frames, counts):
@@ -377,32 +397,38 @@ def is_cut(log):
     return log != b"" and not log.endswith(b"\n")
 
 
-def answers_meant(counts):
+def answers_meant(counts, rules):
     if not counts["requests"]:
         return []
-    return ["unanswered"] if counts["negative"] or counts["no answer"] else ["answered"]
+    return [sentence_under(rules, "unanswered" if counts["negative"] or counts["no answer"] else "answered")]
+
+
+def sentence_under(rules, name):
+    """A sentence about messages; under rules it is said that it is of what these leave."""
+    return f"{name}_of_what_is_left" if rules else name
 
 
 # --- The page ---------------------------------------------------------------------------------------------------------
 
 
-def facts_of(log, name=STANDARD_INPUT, refused=None, sides=SIDES, limit=GIBIBYTE):
-    """What the page of a log with this name tells, or of what stands before the place where it is refused. What is open there is
-    called neither unanswered nor unfinished."""
+def facts_of(log, name=STANDARD_INPUT, refused=None, sides=SIDES, limit=GIBIBYTE, rules=()):
+    """What the page of a log with this name tells under rules, or of what stands before the place where it is refused. What is open there
+    is called neither unanswered nor unfinished."""
     lines = refused.lines if refused else oracle.cut(log)
     frames = oracle.trace(lines, sides)
-    rows = rows_of(frames) + ([] if refused else end_rows(frames))
+    rows = rows_of(frames, rules) + ([] if refused else end_rows(frames, rules))
     counts = counts_of(lines, frames, rows)
-    kind, told, sentences = ("refused", refused.fault, ["before"]) if refused else state(log, frames, counts)
+    kind, told, sentences = ("refused", refused.fault, ["before"]) if refused else state(log, frames, counts, rules)
     return Facts(
         names=2 * (name_text(name),),
         sides=(sides[TESTER], sides[UNIT]),
         blocks=blocks_told(frames[0].micros if frames else 0, rows),
         refused=refused.fault if refused else None,
+        rules=[Rule(profiles.told_rule(rule), (f"{count}",)) for rule, count in zip(rules, profiles.spoken(rules, frames))],
         verdict=Verdict(
             kind=kind,
             told=told,
-            sentences=sentences + ([] if refused else answers_meant(counts)),
+            sentences=sentences + ([] if refused else answers_meant(counts, rules)),
             cause=causes.cause(log, limit, refused.fault) if refused else None,
             looks=looks_told(rows),
             counts=counts_told(counts),
@@ -445,9 +471,14 @@ class Page:
         new = sorted(found.words - golden_words())
         return [
             *fact_differences(found.facts, self.facts),
-            *([] if found.style == STYLE else ["the style is not that of report.css"]),
+            *([] if found.style == style_under(self.facts.rules) else ["the style is not that of report.css"]),
             *([f"no page of tests/pages/golden says {new[0]}"] if new else []),
         ]
+
+
+def style_under(rules):
+    """The style of a page."""
+    return STYLE + (RULES_STYLE if rules else "")
 
 
 def fact_differences(came, want):
@@ -458,6 +489,7 @@ def fact_differences(came, want):
         *first_difference("row", rows_in(came), rows_in(want)),
         *first_difference("block", list(map(shape_of, came.blocks)), list(map(shape_of, want.blocks))),
         *first_difference("refusal", [came.refused], [want.refused]),
+        *first_difference("rule", came.rules, want.rules),
         *(text for name in Verdict._fields for text in verdict_difference(name, came.verdict, want.verdict)),
     ]
 
@@ -490,10 +522,10 @@ def apart(came, want):
     return f"{came!r}, not {want!r}"
 
 
-def reported(log, limit=GIBIBYTE, sides=SIDES, name=STANDARD_INPUT):
-    """The page of a log, which is refused as `explain` refuses it."""
+def reported(log, limit=GIBIBYTE, sides=SIDES, name=STANDARD_INPUT, rules=()):
+    """The page of a log under rules, which is refused as `explain` refuses it."""
     refused = oracle.refusal(log, limit, is_long_refused=False)
-    written = Page(facts_of(log, name, refused, sides, limit))
+    written = Page(facts_of(log, name, refused, sides, limit, rules))
     return Outcome(oracle.REFUSED, refused.fault, written) if refused else Outcome(oracle.DONE, None, written)
 
 

@@ -14,8 +14,12 @@ STYLE_MARK, BLOCKS_MARK = "[the style]\n", "[the open blocks]\n"
 
 # --- What a page tells ------------------------------------------------------------------------------------------------
 
-# The name of the log, which stands twice, the identifiers, the blocks of rows, why the log is refused, if it is, and the verdict.
-Facts = namedtuple("Facts", "names sides blocks refused verdict")
+# The name of the log, which stands twice, the identifiers, the blocks of rows, why the log is refused, if it is, the rules, and the
+# verdict.
+Facts = namedtuple("Facts", "names sides blocks refused rules verdict")
+
+# A rule, and of how many messages of each log it spoke.
+Rule = namedtuple("Rule", "text counts")
 
 # Whether it is open, where it begins, and the bodies of its table, each a list of rows.
 Block = namedtuple("Block", "is_open begin bodies")
@@ -34,7 +38,9 @@ Read = namedtuple("Read", "facts style words")
 
 # --- Rows -------------------------------------------------------------------------------------------------------------
 
-BYTES, TIME, MILLISECONDS = r"[0-9A-F]{2}(?: [0-9A-F]{2})*", r"-?\d+\.\d{6}", r"-?\d+\.\d{3}&\#160;ms"
+# `..` is a byte that is masked, and `*` stands where the others are cut off.
+BYTE = r"(?:[0-9A-F]{2}|\.\.)"
+BYTES, TIME, MILLISECONDS = rf"{BYTE}(?: {BYTE})*(?: \*)?", r"-?\d+\.\d{6}", r"-?\d+\.\d{3}&\#160;ms"
 
 # Fields whose names differ only in a last `_` are the same fact.
 ROW = re.compile(
@@ -49,7 +55,7 @@ ROW = re.compile(
 
 OF, PARTIAL = r"(?P<of>tester|unit)", r"message from line (?P<begun>\d+), (?P<announced>\d+) bytes announced:"
 NOTE = (
-    rf"(?:<br><i>(?P<length>\d+) bytes in (?P<frames>\d+) frames(?:, after (?P<after>{MILLISECONDS}))?</i>"
+    rf"(?:<br><i>(?:(?P<length>\d+) bytes )?in (?P<frames>\d+) frames(?:, after (?P<after>{MILLISECONDS}))?</i>"
     rf"| <i>after (?P<after_>{MILLISECONDS})</i>)?"
 )
 FOLDED = (
@@ -59,7 +65,7 @@ FOLDED = (
 # Names from the standards stand in brackets.
 NAMES = r"(?P<names>(?: <i>\([A-Za-z][^<]*\)</i>)*)"
 DATA = rf"<code>(?P<shown>{BYTES})</code>(?: <samp>(?P<letters>[^<]+)</samp>|{FOLDED}| <i>(?P<hidden>\d+) bytes more, not shown</i>)?{NAMES}{NOTE}"
-BRIEF_DATA = rf"(?P<shown>{BYTES})(?: and (?P<hidden>\d+) (?:(?<= 1 )byte|(?<! 1 )bytes) more)?"
+BRIEF_DATA = rf"(?P<shown>{BYTES})(?: and (?P<hidden>(?:at least )?\d+) (?:(?<= 1 )byte|(?<! 1 )bytes) more)?"
 
 # Of each kind of row how it looks, how its arrow ends, and what it says. `words` are no facts.
 Kind = namedtuple("Kind", "look end form")
@@ -112,7 +118,7 @@ def facts_in(found):
 
 PAGE = re.compile(
     r'(?P<front>.*?\n<p class="filter">[^\n]*\n)(?P<blocks>.*?)(?:<p class="stop">(?P<stop><b>[^<\n]+</b> [^\n]*\.)</p>\n)?</main>\n'
-    r'(?P<verdict><section id="verdict" .*?</section>\n)(?P<help>.*)',
+    r'(?P<rules><section id="rules">.*?</section>\n)?(?P<verdict><section id="verdict" .*?</section>\n)(?P<help>.*)',
     re.DOTALL,
 )
 # What is no fact has no name.
@@ -130,6 +136,11 @@ TITLE = (
     rf"From item (?P<item>\d+)(?:, line (?P<line>\d+), (?P<time>{TIME}) s)?|From line (?P<line_>\d+), (?P<time_>{TIME}) s"
     "|(?P<end>At the end of the log)"
 )
+
+RULES = re.compile(
+    r'<section id="rules">\n<h2>Under (?P<count>1 rule|(?!1 )\d+ rules)</h2>\n<p>(?P<words>.*)</p>\n<ul>\n(?P<lines>(?:<li>.*\n)+)</ul>\n</section>\n'
+)
+RULE = re.compile(r"<li><code>(?P<text>[^<]+)</code>: (?P<count>\d+) (?:(?<=: 1 )message|(?<!: 1 )messages)(?: of A, (?P<other>\d+) of B)?\n")
 
 VERDICT = re.compile(
     r'<section id="verdict" class="(?P<look>\w+)">\n<h2><span aria-hidden="true">(?P<sign>[^<]+)</span> (?P<heading>[^<]+)</h2>\n'
@@ -153,8 +164,11 @@ SENTENCES = {
     "empty": r"The log is empty[^.]+\.",
     "others": r"Either no line [^.]+\.",
     "exchanged": r"No message is a request[^.]+\. See [^.]+\.",
+    "exchanged_of_what_is_left": r"Of what the rules leave, no message is a request[^.]+\. See [^.]+\.",
     "answered": r"No answer is negative[^.]+\.",
+    "answered_of_what_is_left": r"Of what the rules leave, no answer is negative[^.]+\.",
     "unanswered": r"Not every request [^.]+\.",
+    "unanswered_of_what_is_left": r"Of what the rules leave, not every request [^.]+\.",
     "before": r"Below is [^.]+\.",
 }
 SENTENCE = re.compile("(?:" + "|".join(f"(?P<{name}>{form})" for name, form in SENTENCES.items()) + ")(?: (?!$)|$)")
@@ -181,6 +195,7 @@ def read(page):
         sides=front.group("tester", "unit"),
         blocks=[block_of(piece, words) for piece in pieces(BLOCK, parts["blocks"])],
         refused=stop_of(parts["stop"], words),
+        rules=rules_of(parts["rules"], words),
         verdict=verdict_of(parts["verdict"], words),
     )
     return Read(facts, front["style"], words)
@@ -214,6 +229,18 @@ def stop_of(text, words):
     front, fault = re.fullmatch(r"(<b>[^<]+</b> )(.*)\.", text).groups()
     words.add(("stop", "", front))
     return fault
+
+
+def rules_of(text, words):
+    """What stands above the verdict of the rules, where there are some."""
+    if text is None:
+        return []
+    found = RULES.fullmatch(text)
+    rules = [Rule(rule["text"], tuple(filter(None, rule.group("count", "other")))) for rule in pieces(RULE, found["lines"])] if found else []
+    if not rules or found["count"].split(" ")[0] != f"{len(rules)}":
+        raise ValueError(f"rules that can't be read: {text}")
+    words.add(("rules", "", found["words"]))
+    return rules
 
 
 def verdict_of(text, words):

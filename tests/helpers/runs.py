@@ -57,7 +57,7 @@ def run(program, words=(), log=b"", **options):
     pipes; what it writes to such an end is None."""
     given = {} if "stdin" in options else {"input": log}
     ask(program, words, log, **options)
-    done = subprocess.run([program, *words], timeout=60, **(PIPES | given | options))
+    done = subprocess.run([program, *words], timeout=300, **(PIPES | given | options))
     return Ended.of(asked[-1], done.returncode, done.stdout, done.stderr)
 
 
@@ -67,7 +67,7 @@ def told_by(program, words, folder, log=b"", **options):
     tty.setraw(theirs)
     given = options if "stdin" in options else {"input": log, **options}
     ask(program, words, log, **options)
-    done = subprocess.run([program, *words], stdout=subprocess.PIPE, stderr=theirs, cwd=folder, timeout=60, **given)
+    done = subprocess.run([program, *words], stdout=subprocess.PIPE, stderr=theirs, cwd=folder, timeout=300, **given)
     os.close(theirs)
     told = b""
     while True:
@@ -102,7 +102,7 @@ def give(running, log, times=1):
 
 def end(running, rest=b""):
     """How it ends over the rest of its log."""
-    output, error = running.communicate(rest, timeout=60)
+    output, error = running.communicate(rest, timeout=300)
     return Ended(running.returncode, output, error)
 
 

@@ -38,6 +38,7 @@ import told
 from cases import DIFFERENT, DONE, REFUSAL, UNCLEAN, Cases
 from counts import counts_in
 from loaded import JOBS, STATUSES, STYLES, Answer, Loaded, Session, Words
+from loaded import settings as settings_of
 from random_logs import limit_for, mutated, random_logs
 from runs import differences, files, run
 
@@ -55,7 +56,7 @@ COMPILERS = {
 }
 SANITIZED = ["-fsanitize=address,undefined", "-fno-sanitize-recover=all"]
 # With as much stack for each thread as the header says is enough; sanitizers take more for themselves.
-PLAIN = ["-DSTACK=65536"]
+PLAIN = ["-DSTACK=262144"]
 REFUSING = ["-DREFUSES", "-Wl,--wrap=malloc,--wrap=realloc,--wrap=free"]
 
 TABLES = [
@@ -242,7 +243,8 @@ def beside_the_program(loaded, program, job, session):
     wrong += differences(f"the status of {job}", answer.status == STATUSES["DONE"], found.status == DONE)
     wrong += differences(f"the text of {job}", text, found.output if found.status == DONE else b"")
     if job == "explain" and found.status == DONE:
-        counts = counts_in(found.output)
+        # What explains a log leaves nothing out.
+        counts = counts_in(found.output) | {"left_out": 0}
         wrong += differences("the counts", {name: getattr(answer, name) for name in COUNTS}, {name: counts[name] for name in COUNTS})
     has_sides = job not in ("find", "find objects")
     if found.status == DONE:
@@ -336,6 +338,36 @@ def names(cases, loaded):
         cases.report(f"the name {name!r} on a page of two", [] if b"<title>" + shown + b" and other - " in page else [page[:600].decode()])
 
 
+PROFILE = b'drop = ["22"]\n[[unit]]\nname = "engine"\ntester = "7E0"\nunit = "7E8"\n'
+GEARBOX = PROFILE.replace(b'drop = ["22"]\n', b"").replace(b"engine", b"gearbox").replace(b"7E", b"7D")
+
+
+def profiles(cases, loaded):
+    """A profile says what is left out, and whose frames are meant; what is wrong in one is put where there is room."""
+    log = (TOP / "examples" / "vin.log").read_bytes()
+    plain = Session("", log, 0x7E0, 0x7E8, LIMIT)
+    for name, session, text, left_out in [
+        ("rules and a unit", plain._replace(tester=0x800, unit=0x800, profile=PROFILE), b"1 stray unit 62F1905742413341354335304546313233343536\n", 1),
+        ("a unit that is named", plain._replace(profile=PROFILE + GEARBOX, only=b"gearbox"), b"", 0),
+        ("a profile without units", plain._replace(profile=b"# none"), loaded.text("list", plain)[1], 0),
+    ]:
+        answer, found = loaded.text("list", session)
+        wrong = differences("status", answer.status, STATUSES["DONE"]) + differences("text", found, text)
+        cases.report(f"a profile: {name}", wrong + differences("left out", answer.left_out, left_out))
+    for name, given, text, line in [
+        ("no TOML", {"profile": b"\ndrop = ["}, b"line 2 column 9: not TOML", 2),
+        ("nothing masked", {"profile": b'mask = ["67"]'}, b'mask "67": nothing is masked', 0),
+        ("several units", {"profile": PROFILE + GEARBOX}, b"2 units: choose one: engine, gearbox", 0),
+        ("no such unit", {"profile": PROFILE, "only": b"brake\n"}, b"no unit $'brake\\x0A'", 0),
+        ("no units", {"only": b"engine"}, b"no units", 0),
+    ]:
+        session = plain._replace(**given)
+        found = [loaded.text("list", session), loaded.text("messages", session), loaded.wrong(session)]
+        wrong = [f"{answer.status} {told}" for answer, told in found if (answer.status, told, answer.line) != (STATUSES["PROFILE"], text, line)]
+        small, _ = loaded.text("list", session, room=len(text) - 1)
+        cases.report(f"a wrong profile: {name}", wrong + differences("length", (small.status, small.length), (STATUSES["PROFILE"], len(text))))
+
+
 def texts_of_statuses(cases, loaded):
     """Each status has a text of its own, of printable ASCII, and one is for all numbers that are none."""
     call = loaded.library.udsnorm_status_text
@@ -362,12 +394,12 @@ def settings(cases, loaded):
         found = [loaded.text(job, session)[0].status for job in jobs]
         found += [loaded.compare(session, b"").status, loaded.page(session, b"", [b"", b""])[0].status]
         found += [loaded.diff(style, session, b"", [b"", b""])[0].status for style in (0, STYLES["diff objects"])]
-        cases.report(f"{name} of {session[2:]}", differences("statuses", found, [STATUSES[name]] * (len(jobs) + 4)))
+        cases.report(f"{name} of {session[2:5]}", differences("statuses", found, [STATUSES[name]] * (len(jobs) + 4)))
     for call, styles in (("list", (4, 0x10, 0xFFFFFFFF)), ("messages", (1, 3, 0xFFFFFFFF)), ("explain", (1, 3, 0xFFFFFFFF)), ("find", (1, 3, 0xFFFFFFFF))):
         for style in styles:
             answer = Answer()
-            sides = (ctypes.c_uint32(0x7E0), ctypes.c_uint32(0x7E8)) if call != "find" else ()
-            given = (*sides, ctypes.c_uint64(LIMIT), ctypes.c_uint32(style))
+            usual = Session("", b"", 0x7E0, 0x7E8, LIMIT)
+            given = (*(settings_of(usual) if call != "find" else [ctypes.c_uint64(LIMIT)]), ctypes.c_uint32(style))
             loaded.library[f"udsnorm_{call}"](*given, None, ctypes.c_size_t(0), None, ctypes.c_size_t(0), ctypes.byref(answer))
             cases.report(f"the style {style} of {call}", differences("status", answer.status, STATUSES["STYLE"]))
     for style in (1, 3, 0xFFFFFFFF):
@@ -413,6 +445,7 @@ def main():
     settings(cases, loaded)
     names(cases, loaded)
     texts_of_statuses(cases, loaded)
+    profiles(cases, loaded)
     rows(cases, loaded, given.program, chosen)
     at_random(cases, loaded, given.program, given.seed, given.logs)
     cases.end()

@@ -23,12 +23,15 @@
 #define ROUNDS 10
 #define GUARD 64
 #define FILLED 0xA5
+#define NESTED 79
 
 struct session {
     uint32_t tester, unit;
     uint64_t limit;
     uint8_t *log;
     size_t length;
+    const uint8_t *profile;
+    size_t profile_length;
 };
 
 /* Each text with its call, its style, and the bytes that the header says are enough for a byte of the log; 0 of a page,
@@ -79,6 +82,9 @@ static uint8_t *memory(size_t size)
     return at;
 }
 
+/* What every call but udsnorm_find takes first. */
+#define GIVEN s->tester, s->unit, s->limit, s->profile, s->profile_length, NULL, 0
+
 /* One of the texts of a log; a comparison has none, and compares the log with itself, as a page of two shows it twice. Where
  * it differs is told from no log at all. */
 static uint32_t text(int call, const struct session *s, const uint8_t *log, uint8_t *out, size_t room,
@@ -87,17 +93,17 @@ static uint32_t text(int call, const struct session *s, const uint8_t *log, uint
     uint32_t style = texts[call].style;
     memset(answer, FILLED, sizeof *answer);
     switch (texts[call].kind) {
-    case NORMALISE: return udsnorm_normalise(s->tester, s->unit, s->limit, log, s->length, out, room, answer);
-    case LIST: return udsnorm_list(s->tester, s->unit, s->limit, style, log, s->length, out, room, answer);
-    case MESSAGES: return udsnorm_messages(s->tester, s->unit, s->limit, style, log, s->length, out, room, answer);
-    case EXPLAIN: return udsnorm_explain(s->tester, s->unit, s->limit, style, log, s->length, out, room, answer);
+    case NORMALISE: return udsnorm_normalise(GIVEN, log, s->length, out, room, answer);
+    case LIST: return udsnorm_list(GIVEN, style, log, s->length, out, room, answer);
+    case MESSAGES: return udsnorm_messages(GIVEN, style, log, s->length, out, room, answer);
+    case EXPLAIN: return udsnorm_explain(GIVEN, style, log, s->length, out, room, answer);
     case FIND: return udsnorm_find(s->limit, style, log, s->length, out, room, answer);
-    case COMPARE: return udsnorm_compare(s->tester, s->unit, s->limit, log, s->length, log, s->length, answer);
+    case COMPARE: return udsnorm_compare(GIVEN, log, s->length, log, s->length, out, room, answer);
     case DIFF:
-        return udsnorm_diff(s->tester, s->unit, s->limit, style, "none", 4, NULL, 0, "a log", 5, log, s->length, out, room, answer);
-    case REPORT: return udsnorm_report(s->tester, s->unit, s->limit, "log", 3, log, s->length, out, room, answer);
+        return udsnorm_diff(GIVEN, style, "none", 4, NULL, 0, "a log", 5, log, s->length, out, room, answer);
+    case REPORT: return udsnorm_report(GIVEN, "log", 3, log, s->length, out, room, answer);
     default:
-        return udsnorm_report_pair(s->tester, s->unit, s->limit, "left", 4, log, s->length, NULL, 0, log, s->length, out, room, answer);
+        return udsnorm_report_pair(GIVEN, "left", 4, log, s->length, NULL, 0, log, s->length, out, room, answer);
     }
 }
 
@@ -212,9 +218,8 @@ static void edges(const struct session *s)
     munmap(log - page, log_room + 2 * page);
 }
 
-static void *again(void *of)
+static void again_under(const struct session *s)
 {
-    const struct session *s = (const struct session *)of;
     int round, call;
     for (call = 0; call < TEXTS; call++) {
         struct udsnorm_answer want, a;
@@ -228,6 +233,26 @@ static void *again(void *of)
         free(out);
         free(whole_text);
     }
+}
+
+/* Each text without a profile, with rules, and with tables in each other, as many as a profile may have: what takes most stack. */
+static void *again(void *of)
+{
+    static const char rules[] = "drop = [\"3E\"]\nmask = [\"62F190..*\"]\n";
+    char deep[4 * NESTED + 6] = "x = ";
+    struct session s = *(const struct session *)of;
+    int n;
+    again_under(&s);
+    s.profile = (const uint8_t *)rules;
+    s.profile_length = sizeof rules - 1;
+    again_under(&s);
+    for (n = 0; n < NESTED; n++)
+        memcpy(deep + 4 + 3 * n, "{a=", 3);
+    deep[4 + 3 * NESTED] = '1';
+    memset(deep + 5 + 3 * NESTED, '}', NESTED);
+    s.profile = (const uint8_t *)deep;
+    s.profile_length = 4 * NESTED + 5;
+    again_under(&s);
     return NULL;
 }
 
@@ -345,7 +370,7 @@ int main(int count, char **words)
     unsigned long tester, unit;
     unsigned long long limit;
     while (scanf("%lx %lx %llu %4095s", &tester, &unit, &limit, name) == 4) {
-        struct session s = {(uint32_t)tester, (uint32_t)unit, (uint64_t)limit, NULL, 0};
+        struct session s = {(uint32_t)tester, (uint32_t)unit, (uint64_t)limit, NULL, 0, NULL, 0};
         FILE *file = fopen(name, "rb");
         long end = -1;
         need(file != NULL && fseek(file, 0, SEEK_END) == 0 && (end = ftell(file)) >= 0 && fseek(file, 0, SEEK_SET) == 0, "no file", name, 0);

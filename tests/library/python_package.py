@@ -32,6 +32,7 @@ from pathlib import Path
 sys.path.insert(0, str(Path(__file__).resolve().parents[1] / "helpers"))
 
 import header
+import profiles
 import tables
 from cases import DIFFERENT, DONE, REFUSAL
 from random_logs import limit_for, mutated, random_logs
@@ -64,25 +65,30 @@ def sides_of(session):
     return numbers, [word for name, digits in sides.items() for word in (f"--{name}", digits)]
 
 
+def shown(item, part):
+    """The bytes of a part of an item or a message, as its text has them."""
+    return re.search(rf"\b{part}=([^,)]*)", str(item))[1]
+
+
 def listed(item):
     """The line of `list --no-numbers` for an item."""
     if isinstance(item, udsnorm.Stray):
-        return f"stray {item.direction} {item.message.hex().upper()}"
-    words = ["exchange", item.service, item.request.hex().upper(), "->", item.outcome]
-    return " ".join([*words, *filter(None, [item.code]), *([item.answer.hex().upper()] if item.answer else [])])
+        return f"stray {item.direction} {shown(item, 'message')}"
+    words = ["exchange", item.service, shown(item, "request"), "->", item.outcome]
+    return " ".join([*words, *filter(None, [item.code]), *([shown(item, "answer")] if item.answer else [])])
 
 
 def placed(message):
     """The line of `messages` for a message."""
     begin, end = (f"{time // 10**6}.{time % 10**6:06}" for time in (message.begin, message.end))
     lines = f"lines {message.first_line} to {message.last_line}"
-    return f"{message.item} {message.role} {message.direction} {lines} at {begin} to {end} {message.message.hex().upper()}"
+    return f"{message.item} {message.role} {message.direction} {lines} at {begin} to {end} {shown(message, 'message')}"
 
 
 def paired(pair):
-    """The line of `find` for a pair."""
+    """The object of `find` for a pair."""
     tester, unit = (f"{side & ~EXTENDED:0{8 if side & EXTENDED else 3}X}" for side in (pair.tester, pair.unit))
-    return f"{pair.credits} --tester {tester} --unit {unit}"
+    return f'{{"credits":{pair.credits},"requests":{pair.requests},"tester":"{tester}","unit":"{unit}"}}'
 
 
 def told_of(refused):
@@ -144,7 +150,8 @@ class BesideTheProgram(unittest.TestCase):
             return
         self.assertEqual((DIFFERENT if str(told) else DONE, str(told)), (found.status, found.output.decode()))
         *changes, counts = map(json.loads, objects.output.splitlines())
-        self.assertEqual({**told.counts._asdict(), "shortest": told.shortest}, counts)
+        left_out = {} if told.counts.left_out is None else {"left_out": [*told.counts.left_out]}
+        self.assertEqual({**told.counts._asdict(), "shortest": told.shortest, **left_out}, counts)
         self.assertEqual(Counter(told.counts._asdict()), Counter(row.kind for row in told.rows))
         shown = [(row.kind, row.left_item, row.right_item) for row in told.rows if row.kind != "same"]
         self.assertEqual(shown, [(change["change"], change["left_item"], change["right_item"]) for change in changes])
@@ -186,7 +193,7 @@ class BesideTheProgram(unittest.TestCase):
     def test_pairs(self):
         logs = [path.read_bytes() for path in sorted(EXAMPLES.glob("*.log"))]
         for log in [*logs, *(row.log() for row in tables.table("pairs_found"))]:
-            found = run(given.program, ["find"], log)
+            found = run(given.program, ["find", "--json"], log)
             with self.subTest(log=log[:200]):
                 try:
                     text = "".join(f"{paired(pair)}\n" for pair in udsnorm.find(log))
@@ -200,6 +207,23 @@ class BesideTheProgram(unittest.TestCase):
             limit = (row.texts("limit") or [None])[0]
             settings, words = ({"limit": int(limit)}, ["--limit", limit]) if limit else ({}, [])
             self.same_difference(row.side("left"), row.side("right"), settings, words)
+
+    def test_under_rules(self):
+        """Random logs under random rules. Items have the bytes of the canonical log, and as texts what `list` has."""
+        rng = random.Random(given.seed)
+        with tempfile.TemporaryDirectory() as folder:
+            path = Path(folder, "p.toml")
+            for log, _ in zip(random_logs(given.seed), range(given.logs)):
+                path.write_bytes(profiles.random_profile(rng, log))
+                settings, words = {"profile": path}, ["--profile", path]
+                self.same(log, settings, words)
+                self.same_difference(log, mutated(rng, log), settings, words)
+                try:
+                    canonical = udsnorm.normalise(log, **settings)
+                except udsnorm.Refused:
+                    continue
+                for again in (settings, {}):
+                    self.assertEqual(udsnorm.items(canonical, **again), udsnorm.items(log, **settings))
 
     def test_random_logs(self):
         rng = random.Random(given.seed)
@@ -255,6 +279,77 @@ class Rows(unittest.TestCase):
             with self.assertRaises(udsnorm.Refused) as caught:
                 udsnorm.diff(*logs)
             self.assertEqual((caught.exception.reason, caught.exception.side), ("bad line", side))
+
+
+class Profiles(unittest.TestCase):
+    """What `profile` and `only` take, and what items are under rules."""
+
+    RULES = {"drop": ["3E", "7E"], "mask": ["27??*", "67??*", "620105.."]}
+    TOML = b'drop = ["3E", "7E"]\nmask = ["27??*", "67??*", "620105.."]\n'
+    UNITS = b'[[unit]]\nname = "engine"\ntester = "7E1"\nunit = "7E9"\n[[unit]]\nname = "brake"\ntester = "7E0"\nunit = "7E8"\n'
+    FRAMES = ("7E0#022701", "7E8#0467011A2B", "7E0#023E00", "7E8#027E00", "7E0#03220105", "7E8#0462010507")
+    LOG = tables.log_of([("frame", frame) for frame in FRAMES])
+
+    def test_forms(self):
+        """A path, TOML and a `dict` are one profile, and what the program makes of it."""
+        with tempfile.TemporaryDirectory() as folder:
+            path = Path(folder, "bench.toml")
+            path.write_bytes(self.TOML)
+            want = run(given.program, ["normalise", "--profile", path], self.LOG).output
+            for profile in (path, str(path), self.TOML, self.RULES):
+                with self.subTest(profile=profile):
+                    self.assertEqual(udsnorm.normalise(self.LOG, profile=profile), want)
+                    self.assertIsNone(udsnorm.compare(self.LOG, want, profile=profile))
+                    told = udsnorm.diff(self.LOG, want, profile=profile)
+                    self.assertEqual((str(told), told.counts, told.counts.left_out), ("", (2, 0, 0, 0), (2, 0)))
+                    udsnorm.testing.assert_same_session(self.LOG, self.LOG.replace(b"1A2B", b"3C4D"), profile=profile)
+
+    def test_where_two_differ(self):
+        """The text has a note for each rule, and the counts what is left out; without rules there is neither."""
+        masked = udsnorm.diff(self.LOG, b"", profile={"drop": ["3e"], "mask": ["67??*"]})
+        self.assertEqual(str(masked).splitlines()[:2], ["# drop 3E: 1 message of A, 0 of B", "# mask 67??*: 1 message of A, 0 of B"])
+        self.assertEqual((masked.counts.left_out, pickle.loads(pickle.dumps(masked)).counts.left_out), ((1, 0), (1, 0)))
+        for profile in (None, {}):
+            plain = udsnorm.diff(self.LOG, b"", profile=profile)
+            self.assertEqual((str(plain)[:4], plain.counts.left_out), ("--- ", None))
+
+    def test_items(self):
+        """They have the bytes of the canonical log, and as texts what `list` has."""
+        key, counter = udsnorm.items(self.LOG, profile=self.RULES)
+        self.assertEqual((key.request, key.answer, counter.answer), (b"\x27\x01", b"\x67\x01", b"\x62\x01\x05\x00"))
+        self.assertIn("request=2701*, outcome='positive', code=None, answer=6701*", str(key))
+        self.assertIn("answer=620105..", str(counter))
+        self.assertEqual(pickle.loads(pickle.dumps(counter)), counter)
+        self.assertEqual(str(pickle.loads(pickle.dumps(counter))), str(counter))
+        self.assertIn("message=620105..", str(udsnorm.messages(self.LOG, profile=self.RULES)[-1]))
+
+    def test_units(self):
+        """One that is named, whatever the call's identifiers are."""
+        told = udsnorm.items(self.LOG, profile=self.UNITS, only="brake", tester="123")
+        self.assertEqual(told, udsnorm.items(self.LOG))
+        self.assertEqual(udsnorm.items(self.LOG, profile=self.UNITS, only="engine"), [])
+
+    def test_wrong(self):
+        """What is wrong is told, behind the path of a file."""
+        with tempfile.TemporaryDirectory() as folder:
+            path = Path(folder, "bench.toml")
+            path.write_bytes(b'mask = ["67"]')
+            for profile, only, text in [
+                (path, None, f'{path}: mask "67": nothing is masked'),
+                (b"drop = [", None, "line 1 column 9: not TOML"),
+                ({"drop": "3E"}, None, "drop: not an array of strings"),
+                ({"x\x7f": 1}, None, "$'x\\x7F': unknown key"),
+                (self.UNITS, None, "2 units: choose one: engine, brake"),
+                (self.UNITS, "gearbox", "no unit gearbox"),
+                (None, "engine", "no units"),
+                (b"#" * 65537, None, "longer than 65536 bytes"),
+            ]:
+                for call in (udsnorm.normalise, udsnorm.items, udsnorm.report, lambda log, **more: udsnorm.compare(log, log, **more)):
+                    with self.subTest(profile=profile, only=only), self.assertRaises(ValueError) as raised:
+                        call(self.LOG, profile=profile, only=only)
+                    self.assertEqual(str(raised.exception), text)
+            with self.assertRaises(OSError):
+                udsnorm.items(self.LOG, profile=Path(folder, "none.toml"))
 
 
 class Places(unittest.TestCase):
@@ -651,7 +746,7 @@ LINK = re.compile(r"\[((?:[^][]|\[[^][]*\])+)\]\(([^)#\s]*)(?:#[^)\s]*)?\)")
 
 # Code that a user may write, with its types.
 TYPED = '''
-from typing import Iterator, List, Optional
+from typing import Iterator, List, Optional, Tuple
 import udsnorm
 from udsnorm.testing import assert_same_session
 
@@ -661,6 +756,7 @@ first: Optional[udsnorm.Difference] = udsnorm.compare(bytearray(), memoryview(b"
 rows: List[udsnorm.Row] = udsnorm.diff("a.log", b"", tester="7E0", limit=1000).rows
 kinds: List[udsnorm.Change] = [row.kind for row in rows]
 changed: int = udsnorm.diff(b"", b"", names=("a", "b")).counts.changed
+left_out: Optional[Tuple[int, int]] = udsnorm.diff(b"", b"", profile={"drop": ["3E"]}).counts.left_out
 dropped: int = udsnorm.explain("a.log").counts.dropped
 seconds: List[float] = [(message.end - message.begin) / 1e6 for message in udsnorm.messages("a.log")]
 answering: List[int] = [pair.unit for pair in udsnorm.find(memoryview(b""))]

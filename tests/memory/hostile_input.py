@@ -102,11 +102,11 @@ MEASURED = 24_000_000
 # Bytes of the two receptions, at most; those that the program has where it watches requests that are answered; and those that
 # it holds for each byte of a log.
 RECEPTION_BYTES = 2 * oracle.MESSAGE_LIMIT
-WATCHED_BYTES = 2**21
+WATCHED_BYTES = 9 * 2**18
 HELD = Fraction(17, 22)
 MEANT = Fraction(49, 22)
 
-FOUND = Fraction(100, 44)
+FOUND = Fraction(300, 44)
 
 # Those of the rows of a log, of which a page of two logs holds both; and beside both, while it looks for what stands beside what,
 # those of each item, at most one for 22 bytes, and those of a script.
@@ -413,6 +413,31 @@ def memory_of_logs(cases):
     memory_of_two(cases)
 
 
+# A profile, a message that it masks, and how many bytes a profile takes at most beside its log: the program's own, and 64 rules.
+PROFILE, MASKED, PROFILE_BYTES = b'drop = ["3E"]\nmask = ["22*", "00.."]\n', b"(0.000000) a 7E0#0122\n", 300_000
+
+
+def under_rules(cases):
+    """A message that is masked is held once more, however many there are; of each `messages` tells one byte more, and no other text has
+    more of any."""
+    with tempfile.NamedTemporaryFile(suffix=".toml") as file:
+        file.write(PROFILE)
+        file.flush()
+        profile = ["--profile", file.name]
+        for words, more in [(["messages"], 1), (["messages", "--json"], 1), (["watch"], 1)]:
+            plain, found = (cases.run([*words, *options], MASKED * 1000) for options in ([], profile))
+            wrong = differences("bytes of each", len(found.output) - len(plain.output), 1000 * more)
+            cases.report(f"{' '.join(words)} of masked messages", wrong + differences("status", found.status, DONE))
+        longest = two_receptions() + b"".join(b"(0.000000) a %b##024%b\n" % (side, b"00" * 11) for side in (b"7E0", b"7E8"))
+        cases.case("two of the longest messages", cases.run(["explain"], longest), DONE, counts_line(longest, messages=2))
+        for job in ["messages", "report"]:
+            name = "two of the longest messages, each masked"
+            holds_at_most(cases, [job, *profile], name, longest, RECEPTION_BYTES + 2 * oracle.MESSAGE_LIMIT + PROFILE_BYTES, DONE)
+            holds_at_most(cases, [job, *profile], "masked messages alone", MASKED * (MEASURED // len(MASKED)), PROFILE_BYTES, DONE)
+        masked = REQUEST + ONE_BYTE * (MEASURED // len(ONE_BYTE))
+        holds_at_most(cases, ["normalise", *profile], "strays that are held", masked, HELD * len(masked) + PROFILE_BYTES, DONE)
+
+
 def address_space(cases):
     """What a log means needs little more address space than its messages have bytes, whether they are few and long or many and
     short."""
@@ -508,7 +533,7 @@ def main():
         sys.exit(__doc__)
     cases = Cases(os.path.abspath(sys.argv[1]), sys.argv[2:])
     cases.each([
-        canonical_growth, longest_texts, page_growth, pair_page_growth, drops, places, longest_lines, one_line_of_error, memory, memory_of_logs,
+        canonical_growth, longest_texts, page_growth, pair_page_growth, drops, places, longest_lines, one_line_of_error, memory, memory_of_logs, under_rules,
         address_space, work,
     ])
     cases.end()

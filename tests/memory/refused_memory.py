@@ -53,7 +53,7 @@ normalise        2      2     2      -
 meaning_of       4      2     4      -
 list             4      2     4      -
 explain          2      0     2      -
-find             2      2     0      -
+find             5      5     1      -
 compare          8      4    11      -
 pair_difference 17     13    20      -
 report           2      0     2      -
@@ -65,22 +65,22 @@ two_are_aligned 18     14    21      -
 # identifiers stand beside it beside its canonical log.
 JOB_GROWTHS = """
                                                        normalise  list  watch  explain  messages  find  report  compare   pages
-both-directions                                                3     5      5        3         3     2       3      5+4    6+32
-candump-any                                                    0     2      2        0         0     2       0      2+4    3+30
-candump-fd                                                     1     3      4        1         1     2       1      3+4    5+15
-candump-marks                                                  2     4      4        2         2     2       2      4+4    5+14
-extended-identifiers                                           0     2      1        0         0     2       0      2+4    3+27
+both-directions                                                3     5      5        3         3     5       3      5+4    6+32
+candump-any                                                    0     2      2        0         0     5       0      2+4    3+30
+candump-fd                                                     1     3      4        1         1     5       1      3+4    5+15
+candump-marks                                                  2     4      4        2         2     5       2      4+4    5+14
+extended-identifiers                                           0     2      1        0         0     5       0      2+4    3+27
 extended-identifiers --tester 18DA10F1 --unit 18DAF110         2     4      4        2         2     -       2      4+4    5+13
-first                                                          0     2      1        0         0     0       0      2+4    3+20
-lost-frame                                                     2     4      4        2         2     2       2      4+4    6+14
-pending                                                        4     4      6        2         2     2       2      4+4    6+15
-refused                                                        0     2      1        0         0     0       0      2+0     3+0
-single-frames                                                  0     2      2        0         0     2       0      2+4    4+35
-vin-fd-crlf                                                    0     2      1        0         0     2       0      2+4    3+13
-vin                                                            2     4      3        2         2     2       2      4+4    5+13
-stray                                                          2     2      3        0         0     2       0      2+4    3+22
-both                                                           2     4      3        2         2     0       2      4+4    5+32
-long                                                           0     -      -        0         0     0       0        -       -
+first                                                          0     2      1        0         0     1       0      2+4    3+20
+lost-frame                                                     2     4      4        2         2     5       2      4+4    6+14
+pending                                                        4     4      6        2         2     5       2      4+4    6+15
+refused                                                        0     2      1        0         0     1       0      2+0     3+0
+single-frames                                                  0     2      2        0         0     5       0      2+4    4+35
+vin-fd-crlf                                                    0     2      1        0         0     5       0      2+4    3+13
+vin                                                            2     4      3        2         2     5       2      4+4    5+13
+stray                                                          2     2      3        0         0     5       0      2+4    3+22
+both                                                           2     4      3        2         2     1       2      4+4    5+32
+long                                                           0     -      -        0         0     1       0        -       -
 """
 
 # The columns of jobs over two logs, with their commands.
@@ -89,7 +89,8 @@ OVER_TWO = {"compare": "compare", "pages": "report"}
 # Words that ask for no job, or for one that does not begin.
 WORDS = ["--help", "list --help", "lis", "list --limi 1", "list --limit x", "compare a", "list --tester 7E", "list --tester 800"]
 
-# How many growths the parser may swallow, whose answer is then the same: most where it looks for words to suggest.
+# How many growths the parser may swallow, whose answer is then the same: most where it looks for words to suggest. Words are first
+# read for the name of a profile, as often as then for what they ask: where they name none, nothing comes of what that is refused.
 MOST_SWALLOWED = 40
 
 
@@ -152,7 +153,7 @@ def job_refused(cases, refuser, name, words, begun, later):
 
 
 def are_of_words(told):
-    return set(told) <= {OUT_OF_MEMORY, None} and told.count(None) <= MOST_SWALLOWED
+    return set(told) <= {OUT_OF_MEMORY, None} and told.count(None) <= len(told) // 2 + MOST_SWALLOWED
 
 
 def in_short(told):
@@ -211,6 +212,24 @@ def differences_refused(cases, refuser):
         cases.report(f"diff {words} of {name}, each of {len(told)} growths refused", [] if kinds == [left, right] else in_short(told))
 
 
+def profiles_refused(cases, refuser):
+    """Each growth of a profile, of its rules and of what these mask is told: of the words, or of the log that is read."""
+    profile, log = ["--profile", EXAMPLES.parent / "share" / "profiles" / "bench.toml"], EXAMPLES / "both-directions.log"
+    masked = refuser.folder / "masked.toml"
+    masked.write_bytes(b'drop = ["3E"]\nmask = ["22*", "2E??..", "62....", "6E*", "00.."]\n')
+    for words in [*([job, "--profile", masked, log] for job in ("normalise", "list", "watch", "messages", "report")), ["list", *profile, "--only", "engine", log]]:
+        told = told_of_each(cases.program, refuser, words)
+        holds = OUT_OF_MEMORY in told and are_of_words(told)
+        cases.report(f"{words[0]} under rules, each of {len(told)} growths refused", [] if holds else in_short(told))
+    for job in ("compare", "diff", "report"):
+        told = told_of_each(cases.program, refuser, [job, "--profile", masked, log, EXAMPLES / "lost-frame.log"])
+        kinds = [kind for kind, _ in groupby(told) if kind not in (None, OUT_OF_MEMORY)]
+        holds = kinds == [b"left: " + OUT_OF_MEMORY, b"right: " + OUT_OF_MEMORY]
+        cases.report(f"{job} of two under rules, each of {len(told)} growths refused", [] if holds else in_short(told))
+    told = told_of_each(cases.program, refuser, ["list", *profile, log])
+    cases.report(f"no unit is named, each of {len(told)} growths refused", [] if OUT_OF_MEMORY in told and are_of_words(told) else in_short(told))
+
+
 def build_calls(cases, crate):
     """The tests of the calls of a crate, proved and built."""
     words = ["rt", "test"]
@@ -254,7 +273,7 @@ def main():
         sys.exit(__doc__)
     cases = Cases(os.path.abspath(sys.argv[1]), sys.argv[2:])
     with tempfile.TemporaryDirectory() as folder:
-        cases.each([the_program, the_other_commands, differences_refused, the_libraries], Refuser(folder))
+        cases.each([the_program, the_other_commands, differences_refused, profiles_refused, the_libraries], Refuser(folder))
     cases.end()
 
 

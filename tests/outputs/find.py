@@ -1,4 +1,4 @@
-"""The pairs of identifiers that ask and answer."""
+"""The units of a log, with their testers."""
 
 from functools import partial
 
@@ -7,4 +7,5 @@ import oracle
 OUTCOMES = {
     "find": oracle.found,
     "find --json": partial(oracle.found, write=oracle.pairs_objects),
+    "find --toml": partial(oracle.found, write=oracle.pairs_profile),
 }

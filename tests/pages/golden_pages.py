@@ -36,6 +36,10 @@ PAGES = {
     "refused": [],
     "refused_at_once": [],
     "refused_by_limit": ["--limit", "76"],
+    "ruled": ["--profile", str(GOLDEN / "ruled.toml")],
+    "ruled_unanswered": ["--profile", str(GOLDEN / "ruled.toml")],
+    "ruled_exchanged": ["--tester", "7E8", "--unit", "7E0", "--profile", str(GOLDEN / "ruled.toml")],
+    "ruled_refused": ["--profile", str(GOLDEN / "ruled.toml")],
     "long": [],
 }
 

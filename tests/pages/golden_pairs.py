@@ -1,5 +1,6 @@
 #!/usr/bin/env python3
-"""The pages of golden/pairs/: pages that `udsnorm report` writes of two logs, of which each is in a file beside its page.
+"""The pages of golden/pairs/: pages that `udsnorm report` writes of two logs, of which each is in a file beside its page, as is the profile
+of some.
 
     tests/pages/golden_pairs.py crates/udsnorm/out/udsnorm
 
@@ -15,6 +16,7 @@ from pathlib import Path
 
 sys.path.insert(0, str(Path(__file__).resolve().parents[1] / "helpers"))
 
+import profiles
 from report_reader import GOLDEN, STYLE_MARK
 from runs import run
 
@@ -30,6 +32,8 @@ NAMES = {
     "none_in_a": "a left log without a frame",
     "nothing": "two logs without a frame",
     "not_clean": "a line that is not in the right log, of two that are cut",
+    "ruled_same": "seeds, keys and a timer that a profile leaves out",
+    "ruled_changed": "a counter, an identification and a request of which a profile masks a part",
 }
 
 
@@ -38,13 +42,26 @@ def logs(name):
     return [PAIRS.joinpath(f"{name}.{side}.log").read_bytes() for side in ("left", "right")]
 
 
+def profile_of(name):
+    """The profile of a page, if it has one."""
+    path = PAIRS / f"{name}.toml"
+    return path if path.exists() else None
+
+
+def rules_of(name):
+    """The rules of that."""
+    path = profile_of(name)
+    return profiles.read(path.read_bytes()).rules if path else []
+
+
 def page_of(program, name):
     """The page of two logs, as it stands in golden/pairs."""
     with tempfile.TemporaryDirectory() as folder:
         paths = [Path(folder, f"{side}.log") for side in ("left", "right")]
         for path, log in zip(paths, logs(name)):
             path.write_bytes(log)
-        return shortened(run(program, ["report", *map(str, paths)]).output.decode())
+        options = ["--profile", str(profile_of(name))] if profile_of(name) else []
+        return shortened(run(program, ["report", *options, *map(str, paths)]).output.decode())
 
 
 def shortened(page):

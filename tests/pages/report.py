@@ -12,6 +12,7 @@ status is 1 where a case failed.
 import gzip
 import itertools
 import os
+import random
 import re
 import select
 import sys
@@ -23,6 +24,7 @@ sys.path.insert(0, str(Path(__file__).resolve().parents[1] / "helpers"))
 
 import golden_pages
 import oracle
+import profiles
 import report_facts
 import tables
 from cases import DEVICE, DONE, REFUSAL, UNCLEAN, Cases
@@ -103,7 +105,8 @@ def golden(cases):
     for name, log in golden_pages.logs().items():
         found, path = cases.run(["report", *golden_pages.PAGES[name]], log), golden_pages.GOLDEN / f"{name}.html"
         wrong = first_difference("line", golden_pages.shortened(found.output.decode()).split("\n"), path.read_text().split("\n"))
-        wrong += [] if f"<style>\n{report_facts.STYLE}</style>\n".encode() in found.output else ["the style is not that of report.css"]
+        style = report_facts.style_under(name.startswith("ruled"))
+        wrong += [] if f"<style>\n{style}</style>\n".encode() in found.output else ["the style is not that of report.css"]
         cases.report(f"golden/{path.name}", wrong + text_faults(found.output))
     names = {f"{name}.html" for name in golden_pages.PAGES}
     cases.report("golden/ has no other page", differences("its pages", {path.name for path in golden_pages.GOLDEN.glob("*.html")}, names))
@@ -135,13 +138,37 @@ FAULTS = [
 ]
 
 
+# Faults of a page of golden/ruled.log.
+FAULTS_UNDER_RULES = [
+    ("a masked byte that is told", "<code>62 01 05 .. ..", "<code>62 01 05 00 .."),
+    ("a byte that is masked", "<code>62 01 05", "<code>62 01 .."),
+    ("no star", "<code>67 01 *<", "<code>67 01<"),
+    ("a star where nothing is cut off", "<code>62 01 05 .. ..", "<code>62 01 05 .. .. *"),
+    ("the name of a masked message", "<code>67 01 *</code>", "<code>67 01 *</code> <i>(requestSeed 01)</i>"),
+    ("the length of a message that is cut off", "<br><i>in 3 frames", "<br><i>20 bytes in 3 frames"),
+    ("a rule that spoke of one message more", "<code>drop 7E</code>: 1 message\n", "<code>drop 7E</code>: 2 messages\n"),
+    ("another rule", "<code>drop 7F3E</code>", "<code>drop 7F3F</code>"),
+    ("a rule less", re.compile(r"<li><code>.*\n"), ""),
+    ("a count of rules", re.compile(r"Under \d rules"), "Under 9 rules"),
+    ("how many are left out", re.compile(r"<dt>left out</dt><dd>\d"), "<dt>left out</dt><dd>9"),
+    ("of what a sentence is", " Of what the rules leave, no answer is negative", " No answer is negative"),
+    ("that none is left out", re.compile(r"<div[^>]*><dt>left out</dt>.*\n"), ""),
+]
+
+
 def faults(cases):
+    """The reader finds each fault of a page without rules, and of one under rules."""
+    planted(cases, "clean", FAULTS)
+    planted(cases, "ruled", FAULTS_UNDER_RULES)
+
+
+def planted(cases, golden_name, named_faults):
     """The reader finds each fault of a page: these, each line that is left out or stands twice, and each eleventh
     byte that is another one."""
-    log = golden_pages.logs()["clean"]
-    page, want = cases.run(["report"], log).output.decode(), report_facts.reported(log).written
-    cases.report("a page without a fault", want.differences(page.encode()))
-    for name, old, new in FAULTS:
+    log, options = golden_pages.logs()[golden_name], golden_pages.PAGES[golden_name]
+    page, want = cases.run(["report", *options], log).output.decode(), report_facts.reported(log, rules=rules_in(options)).written
+    cases.report(f"a page without a fault, {golden_name}", want.differences(page.encode()))
+    for name, old, new in named_faults:
         other = re.sub(old if isinstance(old, re.Pattern) else re.escape(old), new, page, count=1)
         wrong = ["the page is the same"] if other == page else [] if want.differences(other.encode()) else ["it is not found"]
         cases.report(f"a fault: {name}", wrong)
@@ -150,7 +177,12 @@ def faults(cases):
     others |= {f"line {at + 1} twice": lines[: at + 1] + lines[at:] for at in range(len(lines))}
     others |= {f"byte {at + 1} is another one": [page[:at], "~", page[at + 1 :]] for at in places_of_bytes(page)}
     unseen = [name for name, other in others.items() if not want.differences("".join(other).encode())]
-    cases.report(f"{len(others)} faults of lines and bytes", [f"not found: {name}" for name in unseen[:3]])
+    cases.report(f"{len(others)} faults of lines and bytes, {golden_name}", [f"not found: {name}" for name in unseen[:3]])
+
+
+def rules_in(options):
+    """The rules of the profile that options name."""
+    return profiles.read(Path(options[1]).read_bytes()).rules if options[:1] == ["--profile"] else []
 
 
 def places_of_bytes(page):
@@ -169,10 +201,20 @@ def pages(cases):
         cases.report(name, wrong + ([f"the log {log!r}"] if wrong and len(log) < 2000 else []))
 
 
-def page_faults(cases, log, sides):
-    options = [word for side in (TESTER, UNIT) for word in (f"--{side}", sides[side])]
+def pages_under_rules(cases):
+    """The same of logs under rules."""
+    with tempfile.TemporaryDirectory() as folder:
+        profile = Path(folder, "p.toml")
+        for name, log, toml in itertools.chain(ruled_logs(), random_ruled_logs()):
+            profile.write_bytes(toml)
+            wrong = page_faults(cases, log, oracle.SIDES, ["--profile", str(profile)])
+            cases.report(f"under rules: {name}", wrong + ([f"the log {log!r} and the profile {toml!r}"] if wrong and len(log) < 2000 else []))
+
+
+def page_faults(cases, log, sides, profile=()):
+    options = [*(word for side in (TESTER, UNIT) for word in (f"--{side}", sides[side])), *profile]
     found = cases.run(["report", *options], log)
-    wrong = page_differences(found, report_facts.reported(log, sides=sides)) + text_faults(found.output)
+    wrong = page_differences(found, report_facts.reported(log, sides=sides, rules=rules_in(profile))) + text_faults(found.output)
     try:
         return wrong + retold_otherwise(cases, read(found.output.decode()).facts, log, options)
     except (LookupError, ValueError) as error:
@@ -214,12 +256,59 @@ def retold_otherwise(cases, page, log, options):
     if listed.status != DONE:
         listed = cases.run(["watch", *options], log)
     explained = cases.run(["explain", *options], log)
-    counted = counts_told(counts, rows) if explained.status == DONE else ""
+    counted, told = counts_told(counts, rows) if explained.status == DONE else "", explained.output.decode()
+    if page.rules and counted:
+        # What explains a log knows no rules.
+        counted, told = "", told[: told.rindex("lines ")]
     return [
         *differences("the list by the rows", shortened(list_told(rows), is_brief), shortened(listed.output.decode(), is_brief)),
-        *differences("the explanation by the rows", explanation_told(rows) + counted, explained.output.decode()),
+        *differences("the explanation by the rows", explanation_told(rows) + counted, told),
         *differences("the counts", counts_in(counts), counts_of_rows(rows)),
     ]
+
+
+def ruled_logs():
+    """Logs with a profile that are made for one thing each."""
+    alive, read = ["7E0#023E00", "7E8#027E00"], ["7E0#03220105", "7E8#0562010500AA"]
+    for name, frames, toml in [
+        ("rules that speak of nothing", [REQUEST, ANSWER], b'drop = ["3E"]\nmask = ["27??*"]'),
+        ("one rule", [*alive, REQUEST, ANSWER], b'drop = ["3E"]'),
+        ("all is left out", alive, b'drop = ["3E", "7E"]'),
+        ("a message between a request and its answer", [REQUEST, *alive, ANSWER], b'drop = ["3E", "7E"]'),
+        ("a request whose answer stays", [REQUEST, ANSWER, *read], b'drop = ["22F190"]'),
+        ("pending replies are counted, too", [REQUEST, "7E8#037F2278", "7E8#037F2278", ANSWER], b'drop = ["7F2278"]'),
+        ("pending replies of a request that is left out", [REQUEST, "7E8#037F2278", ANSWER], b'drop = ["22"]'),
+        ("a masked byte, and one that was 00", [*read, "7E0#03220105", "7E8#056201050000"], b'mask = ["620105.."]'),
+        ("a message that ends before the places do", ["7E0#0127", "7E8#0167"], b'mask = ["27??*", "67...."]'),
+        ("nothing is cut off", ["7E0#022701", "7E8#026701"], b'mask = ["67??*"]'),
+        ("a request that is cut off, and asks for no answer", ["7E0#03108301", "7E0#023E80"], b'mask = ["10??*"]'),
+        ("a long answer that is cut off", VIN, b'mask = ["62F190......*"]'),
+        ("letters of a long answer that is cut off", VIN, b'mask = ["62F190..????????????*"]'),
+        ("letters behind masked bytes", VIN, b'mask = ["62F190......"]'),
+        ("a frame of what is left out is lost", ["7E0#1014360141424344", "7E0#2245464748"], b'drop = ["36"]'),
+        ("a refused log", [*alive, REQUEST, "x"], b'drop = ["3E", "7E"]'),
+        ("sides that look exchanged", ["7E8#0322F190", "7E0#0462F19041", "7E0#027E00"], b'drop = ["7E"]'),
+        ("sides that look exchanged as the log is, and not as the rules leave it", ["7E8#0322F190", "7E0#0462F19041"], b'drop = ["22", "62"]'),
+        ("64 rules", [REQUEST, ANSWER], profiles.toml_of({"drop": [f"{number:04X}" for number in range(0x2200, 0x2240)]})),
+        ("the longest rule", [REQUEST], profiles.toml_of({"mask": [f"{'62' * 16}{'..??' * 32}*"]})),
+        *((f"a message of {length} bytes, masked", log_of_messages(message_of(length)), profiles.toml_of({"mask": ["0001" + "..??" * 32]})) for length in LENGTHS),
+        *((f"one of {length} bytes, cut off", log_of_messages(message_of(length)), profiles.toml_of({"mask": ["0001" + "??.." * 32 + "*"]})) for length in LENGTHS),
+        ("brief rows", [*1001 * [REQUEST], *brief_frames()], b'drop = ["3E"]\nmask = ["2EF1????..", "6EF1*", "620105..", "2701*"]'),
+        ("brief rows of long messages that are cut off", [*1001 * [REQUEST], *brief_frames()], profiles.toml_of({"mask": ["2EF1" + 33 * "??" + "*"]})),
+    ]:
+        yield name, frames if isinstance(frames, bytes) else log_of(*frames), toml
+
+
+def brief_frames():
+    """Messages of which masks speak in rows that are brief: short ones and long ones, and one that is left out."""
+    return [f"7E0##0003E2EF15A{59 * '5A'}", "7E8#046EF15A01", "7E0#03220105", "7E8#0562010500AA", "7E0#022701", "7E0#042701AABB", "7E0#023E80", REQUEST]
+
+
+def random_ruled_logs():
+    """Random logs under random rules."""
+    rng = random.Random(SEED)
+    for number, log in enumerate(itertools.islice(random_logs(SEED + 2), RANDOM_LOGS), 1):
+        yield f"random log {number}", log, profiles.random_profile(rng, log)
 
 
 def sample_logs():
@@ -498,7 +587,7 @@ def main():
     if len(sys.argv) < 2:
         sys.exit(__doc__)
     cases = Cases(os.path.abspath(sys.argv[1]), sys.argv[2:])
-    cases.each([golden, faults, pages, names, options, strict_runs, refused_logs, causes_of_refusals, growing_page, devices, sizes, memory])
+    cases.each([golden, faults, pages, pages_under_rules, names, options, strict_runs, refused_logs, causes_of_refusals, growing_page, devices, sizes, memory])
     cases.end()
 
 

@@ -25,6 +25,7 @@ import oracle
 import pair_facts
 import pair_faults as second_reading
 import pair_reader
+import profiles
 import tables
 from cases import DEVICE, DIFFERENT, DONE, REFUSAL, UNCLEAN, WORDS, Cases
 from oracle import TESTER, UNIT
@@ -112,6 +113,13 @@ PLANTED = [
     ("a mark of a byte that is the same", "request_changed", r'(?s)(<section id="items".*?<div class="hx">.*?<code>)22', "\\1<mark>22</mark>"),
     ("the name of another level", "two_answers_changed", r'(?s)(<section id="items".*?<i>\(requestSeed )01', "\\g<1>03"),
     ("folded bytes that one log lacks", "bytes_put_in", r'(?s)(<section id="difference".*?bytes more, the same)', "\\1; 3 bytes only in B"),
+    ("a rule that spoke of one message more", "ruled_same", r"(<code>drop 3E</code>: )1 message ", "\\g<1>2 messages "),
+    ("a rule that masks another byte", "ruled_changed", r"(<code>mask 620105)\.\.", "\\1??"),
+    ("a rule less", "ruled_changed", r"(?s)Under 6 rules(.*?)<li><code>drop 3E.*?\n", "Under 5 rules\\1"),
+    ("green under rules", "ruled_same", 'class="ruled"', 'class="good"'),
+    ("the same without a rule", "ruled_same", r"the same under \d rules", "the same"),
+    ("a masked byte that is told", "ruled_changed", r'(?s)(<section id="items".*?<code>62 01 05) \.\.', "\\1 00"),
+    ("a mark in a masked message", "ruled_changed", r'(?s)(<section id="items".*?<code>62 01 05) \.\.', "\\1 <mark>..</mark>"),
     ("a folded byte that differs", "bytes_put_in", r'(?s)(<section id="items".*?bytes more, )the same', "\\g<1>1 of them differs"),
 ]
 
@@ -183,9 +191,19 @@ OPEN_ENDED = {"tr", "td", "th", "tbody", "p", "li", "meta", "input", "br", "wbr"
 
 def pages(cases):
     """Each pair has its page, which says what `compare` says."""
-    for name, left, right, options in itertools.chain(sample_pairs(), table_pairs(), made_pairs(), long_messages(), many_items(), random_pairs()):
+    report_pages(cases, sample_pairs(), table_pairs(), made_pairs(), long_messages(), many_items(), random_pairs())
+
+
+def pages_under_rules(cases):
+    """The same of pairs under rules."""
+    report_pages(cases, ruled_pairs(), random_ruled_pairs())
+
+
+def report_pages(cases, *pairs):
+    for name, left, right, options in itertools.chain(*pairs):
         wrong = pair_faults(cases, left, right, **options)
-        cases.report(name, wrong + ([f"the logs {left!r} and {right!r}"] if wrong and len(left + right) < 2000 else []))
+        shown = [f"the logs {left!r} and {right!r} and {options}"] if wrong and len(left + right) < 2000 else []
+        cases.report(name, wrong + shown)
 
 
 def golden(cases):
@@ -193,26 +211,36 @@ def golden(cases):
     for name, told in golden_pairs.NAMES.items():
         page, path = golden_pairs.page_of(cases.program, name), golden_pairs.PAIRS / f"{name}.html"
         wrong = first_difference("line", page.split("\n"), path.read_text().split("\n"))
-        cases.report(f"golden/pairs/{path.name}: {told}", wrong + second_reading.told_otherwise(page, pair_facts.came_of(*golden_pairs.logs(name))))
+        cases.report(f"golden/pairs/{path.name}: {told}", wrong + second_reading.told_otherwise(page, golden_came(name)))
     names = {f"{name}.html" for name in golden_pairs.NAMES}
     cases.report("golden/pairs has no other page", differences("its pages", {path.name for path in golden_pairs.PAIRS.glob("*.html")}, names))
+
+
+def golden_came(name):
+    """What the two logs of a page come to, under the rules of its profile."""
+    return pair_facts.came_of(*golden_pairs.logs(name), rules=golden_pairs.rules_of(name))
 
 
 def planted(cases):
     """A second reading finds each fault that is put into a page."""
     for what, name, old, new in PLANTED:
-        page, came = (golden_pairs.PAIRS / f"{name}.html").read_text(), pair_facts.came_of(*golden_pairs.logs(name))
+        page, came = (golden_pairs.PAIRS / f"{name}.html").read_text(), golden_came(name)
         changed, count = re.subn(old, new, page, count=1)
         found = set(second_reading.told_otherwise(changed, came)) - set(second_reading.told_otherwise(page, came))
         cases.report(f"planted: {what}", ([] if count else [f"no {old!r} in golden/pairs/{name}.html"]) + ([] if found else ["it is not found"]))
 
 
-def pair_faults(cases, left, right, sides=oracle.SIDES, limit=None, is_strict=False):
+def pair_faults(cases, left, right, sides=oracle.SIDES, limit=None, is_strict=False, toml=None):
     words = [word for side in (TESTER, UNIT) for word in (f"--{side}", sides[side])]
     words += (["--limit", str(limit)] if limit else []) + (["--strict"] if is_strict else [])
     with files(left, right) as names:
+        profile = names[0].with_name("p.toml")
+        if toml:
+            profile.write_bytes(toml)
+            words += ["--profile", profile]
         found, compared = (cases.run([job, *words, *names]) for job in ("report", "compare"))
-    came = pair_facts.came_of(left, right, limit or oracle.GIBIBYTE, sides, is_strict)
+    rules = profiles.read(toml).rules if toml else []
+    came = pair_facts.came_of(left, right, limit or oracle.GIBIBYTE, sides, is_strict, rules)
     return told_otherwise(found, came) + page_faults(found.output) + compared_otherwise(found, compared)
 
 
@@ -384,6 +412,53 @@ def random_pairs():
         pair = (log, changed(rng, log))
         left, right = pair if rng.random() < 0.5 else pair[::-1]
         yield f"random pair {number}", left, right, {"is_strict": rng.random() < 0.2}
+
+
+def ruled_pairs():
+    """Pairs under rules that are made for one thing each."""
+    seed, key, timer = ["7E0#022701", "7E8#0467011A2B"], ["7E0#0427025E6F", "7E8#026702"], ["7E0#023E00", "7E8#027E00"]
+    counter, vin = ["7E0#03220105", "7E8#0562010500AA"], ["7E0#0322F190", FIRST, "7E0#300000", NEXT, LAST]
+    named = bytes.fromhex("2EF15A4142434445464748")
+    for name, left, right, toml in [
+        ("rules that speak of nothing", [REQUEST, ANSWER], [REQUEST, ANSWER], b'drop = ["3E"]\nmask = ["27??*"]'),
+        ("a rule that leaves out all", timer, [], b'drop = ["3E", "7E"]'),
+        ("a timer", [REQUEST, *timer, ANSWER], [*timer, REQUEST, ANSWER, KEEP_ALIVE], b'drop = ["3E", "7E"]'),
+        ("a timer, and its answers stay", [REQUEST, *timer, ANSWER], [*timer, REQUEST, ANSWER], b'drop = ["3E"]'),
+        ("another seed", seed, ["7E0#022701", "7E8#0467019999"], b'mask = ["67??*"]'),
+        ("a seed of another length", seed, ["7E0#022701", "7E8#036701AA"], b'mask = ["67??...."]'),
+        ("a key and its level", [*seed, *key], [*seed, "7E0#0427045E6F", "7E8#026704"], b'mask = ["27??*", "67??*"]'),
+        ("a kept byte behind a masked one", counter, ["7E0#03220105", "7E8#0562010501AB"], b'mask = ["620105.."]'),
+        ("a kept byte before a masked one", counter, ["7E0#03220105", "7E8#0562010600AA"], b'mask = ["6201??.."]'),
+        ("a message of which a mask speaks, and one of which none does", [STRAY, "7E8#0362F190"], [STRAY, "7E8#0362F191"], b'mask = ["62F190..", "62F191*"]'),
+        ("masked requests", ["7E0#042EF15A11"], ["7E0#052EF15A1122"], b'mask = ["2EF15A.."]'),
+        ("requests that are cut off", ["7E0#042EF15A11"], ["7E0#042EF15B11"], b'mask = ["2EF15A*", "2EF15B.."]'),
+        ("a cut answer of several frames", vin, ["7E0#0322F190", "7E8#0462F19000"], b'mask = ["62F190..*"]'),
+        ("an answer that ends before the places do, and one that is cut off", ["7E0#0322F190", "7E8#0462F19041"], ["7E0#0322F190", "7E8#0762F19041424344"], b'mask = ["62F190????*"]'),
+        ("other last bytes of what is cut off", ["7E0#0322F190", "7E8#0662F190414243"], ["7E0#0322F190", "7E8#0662F190415243"], b'mask = ["62F190????*"]'),
+        ("more than eight bytes that one log has alone, cut off behind them", vin, ["7E0#0322F190", "7E8#0362F190"], b'mask = ["62F190????????????????????*"]'),
+        ("requests of nine bytes, cut off behind them", log_of_messages((TESTER, named)), log_of_messages((TESTER, named), (UNIT, named[:3])), b'mask = ["2EF15A????????????*"]'),
+        ("other outcomes of a masked answer", seed, ["7E0#022701", "7E8#037F2722"], b'mask = ["67??*"]'),
+        ("an item only in B, masked", [REQUEST, ANSWER], [REQUEST, ANSWER, *seed], b'mask = ["67??*"]'),
+        ("more than eight bytes that one log has alone, some of them masked", vin, ["7E0#0322F190", "7E8#0362F190"], b'mask = ["62F190????........"]'),
+        ("a long message with masked bytes", strays_of(bytes(range(0x62, 0xE2))), strays_of(bytes([*range(0x62, 0xE1), 0])), b'mask = ["6263????....??.."]'),
+        ("a dropped frame of what is left out", [REQUEST, ANSWER, "7E0#1014360141424344", "7E0#2245464748"], [REQUEST, ANSWER], b'drop = ["36"]'),
+        ("a refused log", [REQUEST], [REQUEST, "x"], b'drop = ["36"]'),
+        ("one rule", [REQUEST, ANSWER], [REQUEST, OTHER_ANSWER], b'mask = ["62F190.."]'),
+    ]:
+        left, right = (log if isinstance(log, bytes) else log_of(*log) for log in (left, right))
+        yield f"under rules: {name}", left, right, {"toml": toml}
+        yield f"under rules: {name}, the other way round", right, left, {"toml": toml, "is_strict": True}
+
+
+def strays_of(*messages):
+    return log_of_messages(*((UNIT, message) for message in messages))
+
+
+def random_ruled_pairs():
+    """Random logs, each beside a copy in which some lines are changed, under random rules."""
+    rng = random.Random(SEED + 1)
+    for number, log in enumerate(itertools.islice(random_logs(SEED + 1), 0, 2 * RANDOM_PAIRS, 2), 1):
+        yield f"random pair {number} under rules", log, changed(rng, log), {"toml": profiles.random_profile(rng, log)}
 
 
 def changed(rng, log):
@@ -683,7 +758,7 @@ def main():
     if len(sys.argv) < 2:
         sys.exit(__doc__)
     cases = Cases(os.path.abspath(sys.argv[1]), sys.argv[2:])
-    cases.each([golden, planted, pages, told_differences, known_texts, known_notes, refused_logs, refused_by_compare, names, options, strict_runs, streams, devices, memory])
+    cases.each([golden, planted, pages, pages_under_rules, told_differences, known_texts, known_notes, refused_logs, refused_by_compare, names, options, strict_runs, streams, devices, memory])
     cases.end()
 
 

@@ -10,8 +10,9 @@ from report_reader import KINDS, MESSAGES
 
 # Above 512 bytes, and in a brief row above 32, a page has the first 32 bytes of a message: so many digits of a list stand there,
 # and so many at least do not.
-LONG = re.compile(r"\b([0-9A-F]{64})([0-9A-F]{962,})\b")
-LONG_IN_BRIEF = re.compile(r"\b([0-9A-F]{64})([0-9A-F]{2,})\b")
+BYTE = r"(?:[0-9A-F]{2}|\.\.)"
+LONG = re.compile(rf"(?<!\S)({BYTE}{{32}})({BYTE}{{481,}})()(?!\S)")
+LONG_IN_BRIEF = re.compile(rf"(?<!\S)({BYTE}{{32}})({BYTE}+)(\*?)(?!\S)")
 
 
 def digits_of(said):
@@ -22,8 +23,8 @@ def digits_of(said):
 
 def shortened(listed, is_brief):
     """A list with the messages that a page does not show whole, as `digits_of` has them: of one that has brief rows, too, each
-    message that such a row would not."""
-    return (LONG_IN_BRIEF if is_brief else LONG).sub(lambda found: f"{found[1]}+{len(found[2]) // 2}", listed)
+    message that such a row would not. Of a message that a rule cuts off at least so many bytes are not shown."""
+    return (LONG_IN_BRIEF if is_brief else LONG).sub(lambda found: f"{found[1]}+{'at least ' * len(found[3])}{len(found[2]) // 2}", listed)
 
 
 def list_told(rows):
@@ -103,5 +104,6 @@ def counts_of_rows(rows):
 
 
 def counts_in(counts):
-    """The same, as the page counts it."""
-    return {count.name: int(count.number) for count in counts if count.name not in ("lines", "frames")}
+    """The same, as the page counts it: a message that rules leave out has no row."""
+    counted = {count.name: int(count.number) for count in counts if count.name not in ("lines", "frames")}
+    return counted | {"messages": counted["messages"] - counted.pop("left out", 0)}

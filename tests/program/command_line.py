@@ -91,7 +91,10 @@ def options(cases):
     cases.case("--limit below the canonical log", cases.run(["list", "--limit", "45"], LOG), REFUSAL, b"", LONG_CANONICAL)
     cases.case("--limit below the log", cases.run(["explain", "--limit=37"], LOG), REFUSAL, b"", LONG_LOG)
     cases.case("find", cases.run(["find", "clean.log"]), DONE, b"1 --tester 7E0 --unit 7E8\n")
-    cases.case("find --json", cases.run(["find", "--json", "clean.log"]), DONE, b'{"credits":1,"tester":"7E0","unit":"7E8"}\n')
+    cases.case("find --json", cases.run(["find", "--json", "clean.log"]), DONE, b'{"credits":1,"requests":1,"tester":"7E0","unit":"7E8"}\n')
+    profile = b'# 1 of 1 requests answered\n[[unit]]\nname = "7E0-7E8"\ntester = "7E0"\nunit = "7E8"\n'
+    cases.case("find --toml", cases.run(["find", "--toml", "clean.log"]), DONE, profile)
+    cases.case("find --toml of a log without answers", cases.run(["find", "--toml", "oversize.log"]), DONE, b"# nobody answered\n")
     cases.case("find behind a long announcement", cases.run(["find", "oversize.log"]), DONE, b"")
     cases.case("find --limit below the log", cases.run(["find", "--limit", "77", "clean.log"]), REFUSAL, b"", LONG_LOG)
     cases.case("the largest limit", cases.run(["list", "--limit=1099511627776"], LOG), DONE, LIST)
@@ -294,7 +297,7 @@ def files_of_helps(cases):
         lines = text.decode().splitlines()
         wrong = [] if name == OF_PROGRAM or lines[0] == about.get(name) else [f"it begins with {lines[0]!r}"]
         wrong += [] if re.match(rf"Example: .*udsnorm {'' if name == OF_PROGRAM else name}\b", lines[-1]) else [f"it ends with {lines[-1]!r}"]
-        most = 22 + len(names) if name == OF_PROGRAM else 30
+        most = 22 + len(names) if name == OF_PROGRAM else 32
         wrong += [] if len(lines) <= most and max(map(len, lines)) <= 100 else ["more than a screen"]
         cases.report(f"the file of the help of {name}", wrong)
 
@@ -315,7 +318,8 @@ def wrong_words(cases):
         ["list", "--limit", "1", "--limit", "2"], ["list", "--tester=7E0", "--tester=7E0"], ["list", "--limi", "1"],
         ["list", "--limit=x"], ["list", "--json=1"], ["list", "--json", "--json"], ["explain", "--json=1"],
         ["messages", "--json", "--json"], ["normalise", "--json"], ["--json"], ["find", "--tester", "7E0"],
-        ["find", "--unit=7E8"], ["find", "--strict"], ["find", "--no-numbers"], ["find", "--json=1"], ["find", "a", "b"],
+        ["find", "--unit=7E8"], ["find", "--strict"], ["find", "--no-numbers"], ["find", "--json=1"], ["find", "--toml=1"], ["find", "--toml", "--toml"],
+        ["list", "--toml"], ["find", "a", "b"],
         ["list", "--no-numbers=1"], ["list", "--no-numbers", "--no-numbers"], ["watch", "--no-numbers=1"],
         ["watch", "--json=1"], ["normalise", "--no-numbers"], ["explain", "--no-numbers"], ["report", "--json"],
         ["report", "--no-numbers"], ["report", "--show"], ["report", "--strict=1"], ["report", "a", "b", "c"],
@@ -329,6 +333,8 @@ def wrong_words(cases):
         wrong = [] if status == WORDS and output == b"" else [f"status {status}, output {output!r}"]
         wrong += [] if error.startswith(b"error: ") and error.endswith(b"\n") else [f"error output {error!r}"]
         cases.report(f"wrong words {words}", wrong)
+    for words in [["find", "--json", "--toml"], ["find", "--toml", "--json"]]:
+        cases.case(f"wrong words {words}", cases.run(words, LOG), WORDS, b"", b"--json beside --toml\n")
     for words in [[b"\xff\xfe"], ["list", b"\xff"], ["list", b"--tester=\xff"]]:
         cases.case(f"words that are no UTF-8: {words}", cases.run(words, LOG), WORDS, b"", NO_TEXT)
     for words, shown in ESCAPED:

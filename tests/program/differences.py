@@ -1,6 +1,6 @@
 #!/usr/bin/env python3
-"""`diff` of the built program over two logs: the second reading by a table of rows/, random sessions by that reading, what GNU diff
-writes of the same places, and what patch makes of the text.
+"""`diff` of the built program over two logs: the second reading by a table of rows/, random sessions by that reading, under rules, too,
+what GNU diff writes of the same places, and what patch makes of the text.
 
     tests/program/differences.py crates/udsnorm/out/udsnorm [TEST..]
 
@@ -22,6 +22,7 @@ sys.path.insert(0, str(Path(__file__).resolve().parents[1] / "helpers"))
 
 import difference_oracle
 import oracle
+import profiles
 import tables
 from cases import DEVICE, DIFFERENT, DONE, WORDS, Cases
 from difference_oracle import ADDED, CHANGED, REMOVED, SAME
@@ -42,7 +43,10 @@ def written(folder, left, right, names=(LEFT, RIGHT)):
 
 def log_of(items):
     """A log of these items, each message of up to seven bytes."""
-    messages = itertools.chain.from_iterable(messages_of(item) for item in items)
+    return log_of_messages(itertools.chain.from_iterable(messages_of(item) for item in items))
+
+
+def log_of_messages(messages):
     frames = (f"{sender}#{len(message):02X}{message.hex().upper()}" for sender, message in messages)
     return b"".join(tables.stamped(number, frame) for number, frame in enumerate(frames))
 
@@ -180,6 +184,85 @@ def patched(folder, text, name, want, *words):
     return wrong
 
 
+# --- Rules ------------------------------------------------------------------------------------------------------------------
+
+PROFILE = "p.toml"
+
+
+def notes(cases):
+    """A note for each rule, in their order, before any other note, with its digits in upper case, and one message in the singular;
+    and what was left out behind the counts. Where nothing differs there is no note."""
+    alive, pending = ("7E0", b"\x3e\x80"), ("7E8", b"\x7f\x22\x78")
+    ours = log_of_messages([alive, ("7E0", b"\x22\xf1\x90"), pending, ("7E8", b"\x62\xf1\x90\x01"), ("7E0", b"\x22\xf1\x91")])
+    theirs = log_of_messages([("7E0", b"\x22\xf1\x90"), ("7E8", b"\x62\xf1\x90\x02"), alive, alive])
+    rules = 'drop = ["3e"]\nmask = ["62F190..", "22f1b7..*"]\n'
+    header = "--- left.log\n+++ right.log\n"
+    for name, text, written_text, objects in [
+        ("drops and masks", rules, "# drop 3E: 1 message of A, 2 of B\n# mask 62F190..: 1 message of A, 1 of B\n# mask 22F1B7..*: 0 messages of A, 0 of B\n"
+            f"{header}@@ -1,2 +1 @@\n exchange ReadDataByIdentifier 22F190 -> positive 62F190..\n-exchange ReadDataByIdentifier 22F191 -> unanswered\n",
+            '{"same":1,"removed":1,"added":0,"changed":0,"shortest":true,"left_out":[1,2]}\n'),
+        ("a pending reply counts", 'drop = ["7F2278", "3E80"]', "# drop 7F2278: 1 message of A, 0 of B\n# drop 3E80: 1 message of A, 2 of B\n"
+            f"{header}@@ -1,2 +1 @@\n-exchange ReadDataByIdentifier 22F190 -> positive 62F19001\n-exchange ReadDataByIdentifier 22F191 -> unanswered\n"
+            "+exchange ReadDataByIdentifier 22F190 -> positive 62F19002\n",
+            '{"same":0,"removed":1,"added":0,"changed":1,"shortest":true,"left_out":[2,2]}\n'),
+        ("nothing differs", 'drop = ["3E", "7F2278", "62F190", "22F191"]', "", '{"same":1,"removed":0,"added":0,"changed":0,"shortest":true,"left_out":[4,3]}\n'),
+        ("masks alone leave nothing out", 'mask = ["2E..", "62F190*"]', None, ',"left_out":[0,0]}\n'),
+        ("no rules", "drop = []\n", None, ',"shortest":true}\n'),
+    ]:
+        with tempfile.TemporaryDirectory() as folder:
+            written(Path(folder), ours, theirs)
+            Path(folder, PROFILE).write_text(text)
+            found, told = (cases.run(["diff", "--profile", PROFILE, *words, LEFT, RIGHT], cwd=folder) for words in ([], ["--json"]))
+            wrong = [] if told.output.decode().endswith(objects) else [f"{told.output!r} does not end with {objects!r}"]
+            if written_text is not None:
+                wrong += differences("the text", found, Ended(DIFFERENT if written_text else DONE, written_text.encode(), b""))
+            cases.report(f"notes: {name}", wrong)
+
+
+def pended(rng, items):
+    """A log of these items, where some answers are announced before."""
+    messages = []
+    for item in items:
+        first, *rest = messages_of(item)
+        announced = [("7E8", b"\x7f" + first[1][:1] + b"\x78")] * (rng.randrange(3) if rest else 0)
+        messages += [first, *announced, *rest]
+    return log_of_messages(messages)
+
+
+def under_rules(cases, count=300):
+    """Text and objects of random sessions under random rules by the second reading; patch passes the notes over."""
+    rng = random.Random(2)
+    with tempfile.TemporaryDirectory() as name:
+        folder = Path(name)
+        for number in range(count):
+            pair = random_pair(rng)
+            logs = [pended(rng, items) for items in pair]
+            if rng.random() < 0.1:
+                logs[1] = mutated(rng, logs[1])
+            wrong = ruled_wrong(cases, folder, profiles.random_profile(rng, rng.choice(logs)), *logs)
+            if wrong or number % 50 == 49:
+                cases.report(f"random sessions under rules up to {number + 1}", wrong)
+
+
+def ruled_wrong(cases, folder, text, left, right):
+    written(folder, left, right)
+    (folder / PROFILE).write_bytes(text)
+    rules, wrong = profiles.read(text).rules, []
+    for words, write in (([], difference_oracle.difference_text), (["--json"], difference_oracle.difference_objects)):
+        found = cases.run(["diff", "--profile", PROFILE, *words, LEFT, RIGHT], cwd=folder)
+        came = difference_oracle.differed_under(rules, left, right, NAMES, write)
+        want = Ended(came.status, came.written, f"{came.fault}\n".encode() if came.fault else b"")
+        wrong += differences(f"diff {words} under {text}", found, want)
+    found = cases.run(["diff", "--profile", PROFILE, LEFT, RIGHT], cwd=folder)
+    if found.status == DIFFERENT:
+        ours, theirs = (difference_oracle.lines_of(profiles.items_under(rules, oracle.cut(log))) for log in (left, right))
+        lists = folder / "lists"
+        lists.mkdir(exist_ok=True)
+        written(lists, "".join(ours).encode(), "".join(theirs).encode())
+        wrong += patched(lists, found.output.decode(), LEFT, theirs) + patched(lists, found.output.decode(), RIGHT, ours, "-R")
+    return wrong
+
+
 # --- The bound --------------------------------------------------------------------------------------------------------------
 
 
@@ -202,6 +285,9 @@ def beyond_the_bound(cases):
             lists.mkdir()
             written(lists, *("".join(difference_oracle.lines_of(items)).encode() for items in (ours, theirs)))
             wrong += patched(lists, note + text, LEFT, difference_oracle.lines_of(theirs))
+            (folder / PROFILE).write_text('drop = ["3E"]')
+            ruled = cases.run(["diff", "--profile", PROFILE, LEFT, RIGHT], cwd=folder)
+            wrong += differences("notes under rules", ruled.output.decode(), f"# drop 3E: 0 messages of A, 0 of B\n{note}{text}")
             objects = [json.loads(line) for line in cases.run(["diff", "--json", LEFT, RIGHT], cwd=folder).output.splitlines()]
             counts = {SAME: 2, REMOVED: 0, ADDED: 0, CHANGED: count, "shortest": not is_passed}
             wrong += differences("the counts", objects[-1], counts)
@@ -282,7 +368,7 @@ def failing_output(cases):
 def main():
     program, *named = sys.argv[1:]
     cases = Cases(os.path.abspath(program), named)
-    cases.each([rows, random_sessions, beyond_the_bound, names, as_compare, failing_output])
+    cases.each([rows, random_sessions, notes, under_rules, beyond_the_bound, names, as_compare, failing_output])
     cases.end()
 
 

@@ -263,7 +263,7 @@ def found_pairs(program, row):
     log, pairs = row.log(), Ended(DONE, row.text("found"), b"")
     wrong = differences("find", program.run(["find"], log), pairs)
     wrong += differences("find byte by byte", program.run_short(["find"], log), pairs)
-    wrong += differences("find --json", program.run(["find", "--json"], log), pairs._replace(output=in_objects("find", pairs.output)))
+    wrong += differences("find --json", program.run(["find", "--json"], log), pairs._replace(output=oracle.found(log, write=oracle.pairs_objects).written))
     refused = Ended(REFUSAL, b"", place(log.count(b"\n") + 1, 1))
     return wrong + differences("find of a refused log", program.run(["find"], log + b"x\n"), refused)
 

@@ -63,38 +63,44 @@ exec '{sys.executable}' "$@"
 OF_LIBRARIES = {
     "uds_message: rt fmt": [],
     "uds_message: proofs": ["uds_message: rt fmt"],
+    "uds_rules: proofs": ["uds_message: proofs"],
+    "profile: proofs": ["uds_rules: proofs"],
     "uds_exchange: proofs": ["uds_message: proofs"],
     "uds_difference: proofs": ["uds_exchange: proofs"],
     "shown_rows: proofs": ["uds_difference: proofs"],
     "uds_find: proofs": ["uds_message: proofs"],
     "uds_names: proofs": ["uds_message: proofs"],
-    "trace_log: proofs": ["uds_exchange: proofs"],
+    "trace_log: proofs": ["uds_exchange: proofs", "uds_rules: proofs"],
     "trace_run: proofs": ["trace_log: proofs"],
     "trace_text: proofs": ["trace_log: proofs"],
+    "asked_profile: proofs": ["profile: proofs", "trace_text: proofs"],
     "trace_canon: proofs": ["trace_run: proofs", "trace_text: proofs", "uds_find: proofs"],
-    "trace_report: proofs": ["trace_canon: proofs", "uds_names: proofs"],
+    "shown_bytes: proofs": ["trace_text: proofs", "uds_names: proofs"],
+    "pair_words: proofs": ["shown_rows: proofs", "shown_bytes: proofs"],
+    "trace_report: proofs": ["trace_canon: proofs", "shown_bytes: proofs"],
     "trace_difference: proofs": ["shown_rows: proofs", "trace_canon: proofs"],
-    "trace_pair: proofs": ["shown_rows: proofs", "trace_report: proofs"],
+    "trace_pair: proofs": ["pair_words: proofs", "trace_report: proofs"],
 }
 QUICK_TESTS = [*(f"program/{name}" for name in ["command_line", "program", "sessions"]), *(f"documents/{name}" for name in ["shipped", "recipes", "release"])]
 OTHER_TESTS = ["documents/documents", *(f"scripts/{name}" for name in ["make_check", "make_test", "make_evidence", "make_help"])]
-OF_PROGRAM = {"udsnorm: make build": ["trace_pair: proofs", "trace_difference: proofs"], **{f"tests/{test}.py": [] for test in OTHER_TESTS}}
+OF_PROGRAM = {"udsnorm: make build": ["asked_profile: proofs", "trace_pair: proofs", "trace_difference: proofs"], **{f"tests/{test}.py": [] for test in OTHER_TESTS}}
 OF_PROGRAM |= {f"tests/{test}.py": ["udsnorm: make build"] for test in QUICK_TESTS}
 
 # The crates beside the program, each with those below it that are checked.
-UP_TO_LOG = ["uds_message", "uds_exchange", "trace_log"]
+UP_TO_LOG = ["uds_message", "uds_rules", "uds_exchange", "trace_log"]
 UP_TO_CANON = [*UP_TO_LOG, "uds_find", "trace_run", "trace_text", "trace_canon"]
-PAGES = [*UP_TO_CANON, "uds_names", "uds_difference", "shown_rows", "trace_report", "trace_pair"]
-LIBRARIES = [*PAGES, "trace_difference"]
+PAGES = [*UP_TO_CANON, "uds_names", "uds_difference", "shown_rows", "shown_bytes", "pair_words", "trace_report", "trace_pair"]
+LIBRARIES = [*PAGES, "trace_difference", "profile", "asked_profile"]
 TEXTS = [*UP_TO_CANON, "uds_difference", "shown_rows", "trace_difference", "tried_sessions"]
 APART = {
     "json_reading": UP_TO_CANON,
+    "profile_reading": UP_TO_CANON,
     "udsnorm_c": LIBRARIES,
     "layer_bench": ["uds_message", "uds_exchange"],
     "session_bench": PAGES,
     "tried_sessions": UP_TO_LOG,
-    "acceptance": ["uds_message", "uds_names", "uds_exchange", "uds_difference", "uds_find"],
-    "call_acceptance": TEXTS,
+    "acceptance": ["uds_message", "uds_names", "uds_rules", "profile", "uds_exchange", "uds_difference", "uds_find"],
+    "call_acceptance": [*TEXTS, "profile", "asked_profile"],
     "page_acceptance": [*PAGES, "tried_sessions"],
     "refused_memory": TEXTS,
     "refused_pages": [*PAGES, "tried_sessions"],

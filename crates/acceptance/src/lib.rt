@@ -2,7 +2,7 @@
 //!
 //! Each crate below is proved by itself, without a test: the gate would prove it again with them. That its definitions say
 //! what was meant is shown here, layer by layer, by worked values: `log_lines`, `device_calls`, `frame_layouts`,
-//! `frame_verdicts`, `message_frames`, `message_kinds`, `standard_names`, `pairings`, `credited_answers`,
+//! `frame_verdicts`, `message_frames`, `message_kinds`, `standard_names`, `profiles`, `pairings`, `credited_answers`,
 //! `session_rows`.
 //!
 //! `message_frames` also tries the lengths at which a message has a frame more, and `sizes` those at which a buffer may grow.
@@ -29,6 +29,8 @@ mod message_frames;
 mod message_kinds;
 #[cfg(test)]
 mod pairings;
+#[cfg(test)]
+mod profiles;
 #[cfg(test)]
 mod rows;
 #[cfg(test)]

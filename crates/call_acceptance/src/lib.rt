@@ -2,10 +2,12 @@
 //! of nothing else.
 //!
 //! `calls` has the calls of `trace_canon`, and that of `trace_difference` in memory; `said_texts` each part of a line, and each name
-//! and number that commands share. What whole logs become is tested over the built program, by `tests/program/sessions.py`.
+//! and number that commands share; `told_profiles` what is told of wrong profiles. What whole logs become is tested over the built program, by `tests/program/sessions.py`.
 #![tactic(auto)]
 
 #[cfg(test)]
 mod calls;
 #[cfg(test)]
 mod said_texts;
+#[cfg(test)]
+mod told_profiles;

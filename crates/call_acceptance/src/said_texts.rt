@@ -12,12 +12,13 @@ use std::test::Fail;
 use text_parts::{Part, say};
 use trace_io::TextSink;
 use trace_log::Count;
-use trace_text::values::{say_byte, say_direction, say_number, say_place, say_text};
+use trace_text::values::{say_number, say_place, say_text};
 use trace_text::{
-    EndCause, HexBytes, HexadecimalDigit, LayoutFault, Length, Number, Ordinal, ResponseCode,
-    ServiceName, SixDecimals, Stamp, ThreeDecimals, Verbatim, say_counts, say_items,
+    Byte, EndCause, HexBytes, HexadecimalDigit, LayoutFault, Length, Number, Ordinal, ResponseCode,
+    Sender, ServiceName, SixDecimals, Stamp, ThreeDecimals, Verbatim, say_counts, say_items,
 };
 use tried_sessions::LOG;
+use uds_rules::Rules;
 
 /// Keeps what is said, up to where memory is refused.
 #[derive(Drop)]
@@ -134,9 +135,7 @@ fn parts_are_said_one_after_another(rt: HostRuntime) -> Result<(), Fail> {
 fn each_name_and_number_is_said(rt: HostRuntime) -> Result<(), Fail> {
     let mut said = empty_sink(rt.alloc());
     say_text(&mut said, "from ");
-    say_direction(&mut said, Tester);
-    say_text(&mut said, " to ");
-    say_direction(&mut said, Unit);
+    say(&mut said, (Sender(Tester), " to ", Sender(Unit)));
     say_text(&mut said, ", ");
     say_place(&mut said, 9);
     say_text(&mut said, ", ");
@@ -152,10 +151,10 @@ fn each_name_and_number_is_said(rt: HostRuntime) -> Result<(), Fail> {
             HexadecimalDigit(15),
         ),
     );
-    say_byte(&mut said, 0x7F);
     say(
         &mut said,
         (
+            Byte(0x7F),
             HexBytes(&[0x50, 0x03]),
             ", ",
             ServiceName(0x10),
@@ -190,6 +189,7 @@ fn the_items_of_a_session_are_said(rt: HostRuntime) -> Result<(), Fail> {
     say_items(
         &meaning_in(rt.alloc(), LOG.as_bytes())??,
         NUMBERED,
+        &Rules::none(),
         &mut said,
     );
     assert_kept(&rt, &said, LISTED)

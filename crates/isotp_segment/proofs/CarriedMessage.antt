@@ -25,7 +25,8 @@ use Rattle.isotp_segment.proofs.MessageFrames.{at-single, at-first, at-continue,
 use Rattle.isotp_segment.proofs.OpenReceptions.{same-entry}
 
 -- each byte of the message that a first frame holds comes after the length in it
-first-holds : (message : List ℕ) (place i : ℕ) → 8 ≤ length message → place < room_in_first (length message) → i ≡ 8 - room_in_first (length message) + place
+first-holds : (message : List ℕ) (place i : ℕ) → 8 ≤ length message → place < room_in_first (length message)
+    → i ≡ 8 - room_in_first (length message) + place
     → slice_index message place ≡ slice_index (padded (first_control (length message)) message) i
 first-holds message place i low inside is = elim (cases_Bool (nat_le (length message) 4095)) [
   | inl t ↦
@@ -66,8 +67,12 @@ module _ (identifier : Dir → Id) (line micros : ℕ) (T : List Entry) (d : Dir
   reference-of : (number : ℕ) → 1 ≤ number → 1 + number < frame_count len
       → (x : Entry) × At T (begun + number) x × RestartsTimer (role d x) × (x.micros ≡ micros + (begun + number) * 1000)
   reference-of zero one below = absurd (omega arith)
-  reference-of (suc zero) one below =
-      (_, at-continue identifier line micros T d message begun stand (omega arith) (omega arith), rw (continue-role identifier line micros d (begun + 1)) tt, refl)
+  reference-of (suc zero) one below = (
+    _,
+    at-continue identifier line micros T d message begun stand (omega arith) (omega arith),
+    rw (continue-role identifier line micros d (begun + 1)) tt,
+    refl,
+  )
   reference-of (suc (suc number)) one below =
       let next : 1 + suc number ≡ suc (suc number) = omega arith in
       let bytes = drop (place_of len (suc number)) message in
@@ -92,7 +97,14 @@ module _ (identifier : Dir → Id) (line micros : ℕ) (T : List Entry) (d : Dir
           bytes = drop 1 (padded (consecutive_control number) bytes);
           kind = consecutive-role identifier line micros d (begun + (1 + number)) number bytes;
         };
-        fits = record { from_one = one; to_last = most; in_sequence = refl; full = λ _. refl; last_low = λ last. omega arith; last_high = λ _. omega arith };
+        fits = record {
+          from_one = one;
+          to_last = most;
+          in_sequence = refl;
+          full = λ _. refl;
+          last_low = λ last. omega arith;
+          last_high = λ _. omega arith;
+        };
         on_time = (
           begun + number,
           before.0,
@@ -107,7 +119,8 @@ module _ (identifier : Dir → Id) (line micros : ℕ) (T : List Entry) (d : Dir
         );
         holds = λ offset within inside.
             sym (get_or-drop (place_of len number) message offset 0)
-            ∙ padded-holds (consecutive_control number) bytes offset (1 + offset) (omega (arith, length-drop (place_of len number) message)) refl (omega arith);
+            ∙ padded-holds (consecutive_control number) bytes offset (1 + offset)
+            (omega (arith, length-drop (place_of len number) message)) refl (omega arith);
       }
 
   parts-from : (many number position : ℕ) → 1 ≤ number → number + many ≡ count + 1 → position ≡ begun + (1 + number)
@@ -169,7 +182,8 @@ module _ (identifier : Dir → Id) (line micros limit : ℕ) (bits : limit < 2 ^
   idle-continue p = rw (layout-continue (identifier (other_direction d))) tt
 
   -- each frame of a message is at one of its positions, or is the continue frame
-  pub at-own : (p : ℕ) (e : Entry) → begun ≤ p → p < begun + frame_count (length message) → At T p e → IsIn p (positions_of message begun) ⊎ IsIdle (layout_of e.frame)
+  pub at-own : (p : ℕ) (e : Entry) → begun ≤ p → p < begun + frame_count (length message) → At T p e
+      → IsIn p (positions_of message begun) ⊎ IsIdle (layout_of e.frame)
   at-own p e above below there = elim (cases_Bool (nat_le (length message) 7)) [
     | inl t ↦ (let one = total-short (length message) (leb-true (length message) 7 t) in inl (rw t (inl (omega arith))))
     | inr t ↦
@@ -180,7 +194,8 @@ module _ (identifier : Dir → Id) (line micros limit : ℕ) (bits : limit < 2 ^
           | inr most ↦ elim (cases_lt begun p) [
             | inl above_begun ↦
                 (let is : p ≡ begun + 1 = omega arith in
-                let same = same-entry T (begun + 1) e _ (subst (λ j. At T j e) is there) (at-continue identifier line micros T d message begun stand (omega arith) (omega arith)) in
+                let same = same-entry T (begun + 1) e _ (subst (λ j. At T j e) is there)
+                (at-continue identifier line micros T d message begun stand (omega arith) (omega arith)) in
                 inr (rw same (idle-continue (begun + 1))))
             | inr least ↦ inl (rw t (inl (omega arith)))
           ]

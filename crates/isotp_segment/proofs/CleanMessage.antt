@@ -57,7 +57,8 @@ module _ (identifier : Dir → Id) (line micros limit : ℕ) (bits : limit < 2 ^
       (first-clean limit past rest _ (closed-here is) _ _ _ (layout-first (identifier d) message (omega arith) (omega (arith, sent.fits))) sent.fits)
 
   -- after the first one
-  module _ (long : 7 < length message) (its : IsCompleted limit T d message begun) (later : begun < here) (below : here < begun + frame_count (length message)) where
+  module _ (long : 7 < length message) (its : IsCompleted limit T d message begun) (later : begun < here)
+      (below : here < begun + frame_count (length message)) where
     abbrev completed : Completes limit T its.last d message
     completed = its.completed
 
@@ -72,7 +73,8 @@ module _ (identifier : Dir → Id) (line micros limit : ℕ) (bits : limit < 2 ^
     go-on-clean : begun + 1 ≡ here → IsCleanEvent (verdict limit past e)
     go-on-clean is =
         clean-as _ (begun + 1) (at-continue identifier line micros T d message begun sent.stand long (omega arith)) is
-        (continue-clean limit past rest d completed.fit.begun number reception _ (other-of-other d) (layout-continue (identifier (other_direction d))))
+        (continue-clean limit past rest d completed.fit.begun number reception _ (other-of-other d)
+        (layout-continue (identifier (other_direction d))))
 
     next-clean : (k : ℕ) → 1 ≤ k → begun + (1 + k) ≡ here → IsCleanEvent (verdict limit past e)
     unfolding reception open-since
@@ -83,7 +85,8 @@ module _ (identifier : Dir → Id) (line micros limit : ℕ) (bits : limit < 2 ^
         let next = next-since limit T d its.last message completed here (entry identifier line micros here frame) (k % 16) 8 _
         (omega (arith, its.from)) (omega (arith, its.ends)) at_here (consecutive-role identifier line micros d here k _) in
         clean-as _ (begun + (1 + k)) at is
-        (consecutive-clean limit past rest d completed.fit.begun number reception _ (k % 16) 8 _ refl (layout-consecutive (identifier d) k _) next.0 next.1)
+        (consecutive-clean limit past rest d completed.fit.begun number reception _ (k % 16) 8 _ refl
+        (layout-consecutive (identifier d) k _) next.0 next.1)
 
   further-clean : 7 < length message → begun < here → here < begun + frame_count (length message) → IsCleanEvent (verdict limit past e)
   further-clean long later below =

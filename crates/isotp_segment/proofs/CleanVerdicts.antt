@@ -39,7 +39,8 @@ module _ (limit : ℕ) (T rest : List Entry) (d : Dir) (begun number : ℕ)
       let all = what_stands_is_open limit T rest d found.0 found.1 in
       let same = one_is_open limit (T ++ rest) d all.begun all.number begun number (length T) all.is_open reception in
       let same_frame : all.is_open.begins.entry ≡ reception.begins.entry =
-      same-entry (T ++ rest) begun _ _ (subst (λ p. At (T ++ rest) p all.is_open.begins.entry) same.0 all.is_open.begins.stands) reception.begins.stands in
+      same-entry (T ++ rest) begun _ _ (subst (λ p. At (T ++ rest) p all.is_open.begins.entry) same.0 all.is_open.begins.stands)
+      reception.begins.stands in
       let same_start : all.is_open.begins.start ≡ reception.begins.start =
       (let left = all.is_open.begins.kind in let right = reception.begins.kind in cc) in (
         found.0,

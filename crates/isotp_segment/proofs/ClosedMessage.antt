@@ -20,8 +20,8 @@ module _ (identifier : Dir → Id) (line micros limit : ℕ) (T : List Entry) (d
   abbrev behind : ℕ
   behind = begun + frame_count (length message)
 
-  -- A reception that is open there began before the frames: of these the first one begins the reception that the last one
-  -- completes, and no other begins any.
+  -- A reception that is open there began before the frames: of these the first one begins the reception that the last
+  -- one completes, and no other begins any.
   module _ (heard : Dir) (from number : ℕ) (reception : IsOpenAt limit T heard from number behind) where
     begins-at : (p : ℕ) (frame : Dir × List ℕ) → At T p (entry identifier line micros p frame) → p ≡ from
         → (heard ≡ frame.0) × IsFirst (layout_of (classic (identifier frame.0) frame.1))

@@ -56,7 +56,8 @@ pub canonical_frames_have_eight_bytes : CanonicalFramesHaveEightBytes
 unfolding canonical_frames
 canonical_frames_have_eight_bytes limit d m bits each = elim (cases_Bool (nat_le 1 (length m) && nat_le (length m) limit)) [
   | inl t ↦ (let fits = leb-true (length m) limit (and_parts (nat_le 1 (length m)) (nat_le (length m) limit) t).1 in
-      rw t (AllByRecursion-map-range HasEightBytes (canonical_frame d m) 0 (frame_count (length m)) (λ number. eight_frame d m number (omega arith) each)))
+      rw t (AllByRecursion-map-range HasEightBytes (canonical_frame d m) 0 (frame_count (length m))
+      (λ number. eight_frame d m number (omega arith) each)))
   | inr t ↦ rw t tt
 ]
 

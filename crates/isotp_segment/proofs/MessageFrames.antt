@@ -48,7 +48,13 @@ module _ (identifier : Dir → Id) (line micros : ℕ) (d : Dir) (n : ℕ) where
 
   pub first-role : (message : List ℕ) → 8 ≤ length message → length message < 2 ^ 32
       → role d (entry identifier line micros n (d, padded (first_control (length message)) message))
-      ≡ first (record { line = line + n; micros = micros + n * 1000; len = length message; rx_dl = 8; bytes = take (room_in_first (length message)) message })
+      ≡ first (record {
+        line = line + n;
+        micros = micros + n * 1000;
+        len = length message;
+        rx_dl = 8;
+        bytes = take (room_in_first (length message)) message;
+      })
   first-role message low bits = role-own identifier line micros d n _ _ (layout-first (identifier d) message low bits)
 
   pub consecutive-role : (number : ℕ) (bytes : List ℕ) → role d (entry identifier line micros n (d, padded (consecutive_control number) bytes))

@@ -60,10 +60,16 @@ begins-reception d e start is =
 
 -- Where the frame at `position` completes a message: what each consecutive frame since its first one was waited for as.
 module _ (limit : ℕ) (T : List Entry) (d : Dir) (position : ℕ) (message : List ℕ) (completed : Completes limit T position d message) where
+  abbrev start : FirstFrame
+  start = completed.fit.is_open.begins.start
+
+  abbrev in_first : ℕ
+  in_first = bytes_in_first completed.fit.is_open.begins.entry.frame.bytes
+
   -- as the next of the reception, on time
   abbrev pub IsNext : ℕ → Entry → ℕ → ℕ → Type 0
   IsNext place e sequence_number can_dl =
-      FitsAs (bytes_in_first completed.fit.is_open.begins.entry.frame.bytes) completed.fit.is_open.begins.start.rx_dl completed.fit.is_open.begins.start.len completed.fit.is_open.count
+      FitsAs in_first start.rx_dl start.len completed.fit.is_open.count
       (consecutive_frames_in d (between T completed.fit.begun place) + 1) sequence_number can_dl
       × IsOnTime T d completed.fit.begun place e
 
@@ -76,11 +82,12 @@ module _ (limit : ℕ) (T : List Entry) (d : Dir) (position : ℕ) (message : Li
       let same_length : completed.fit.next.can_dl ≡ can_dl = cc in
       rw (same, ← same_number, ← same_length, ← completed.fit.is_open.taken) (completed.fit.fits.1, completed.fit.fits.0)
 
-  pub next-since : (place : ℕ) (e : Entry) (sequence_number can_dl : ℕ) (bytes : List ℕ) → completed.fit.begun < place → place ≤ position → At T place e
+  pub next-since : (place : ℕ) (e : Entry) (sequence_number can_dl : ℕ) (bytes : List ℕ)
+      → completed.fit.begun < place → place ≤ position → At T place e
       → role d e ≡ consecutive sequence_number can_dl bytes → IsNext place e sequence_number can_dl
   next-since place e sequence_number can_dl bytes later most at is = elim (cases_lt place position) [
     | inl before ↦
-        subst (LeavesOpen completed.fit.is_open.begins.start (bytes_in_first completed.fit.is_open.begins.entry.frame.bytes) completed.fit.is_open.count
+        subst (LeavesOpen start in_first completed.fit.is_open.count
         (consecutive_frames_in d (between T completed.fit.begun place)) (IsOnTime T d completed.fit.begun place e)) is
         (completed.fit.is_open.each place e later before at)
     | inr least ↦
@@ -93,11 +100,13 @@ module _ (limit : ℕ) (T : List Entry) (d : Dir) (position : ℕ) (message : Li
   pub closed-behind : (number later : ℕ) → position < later → IsOpenAt limit T d completed.fit.begun number later → ⊥
   closed-behind number later behind reception =
       let its = completed.fit.is_open in
-      let same_frame : reception.begins.entry ≡ its.begins.entry = same-entry T completed.fit.begun reception.begins.entry its.begins.entry reception.begins.stands its.begins.stands in
-      let same_start : reception.begins.start ≡ its.begins.start = (let one = reception.begins.kind in let two = its.begins.kind in cc) in
-      let same_count = one-count (bytes_in_first its.begins.entry.frame.bytes) its.begins.start.rx_dl its.begins.start.len reception.count its.count
-      (subst (λ s. IsConsecutiveCount (bytes_in_first its.begins.entry.frame.bytes) s.rx_dl s.len reception.count) same_start
-      (subst (λ f. IsConsecutiveCount (bytes_in_first f.frame.bytes) reception.begins.start.rx_dl reception.begins.start.len reception.count) same_frame reception.least))
+      let other = reception.begins.start in
+      let same_frame : reception.begins.entry ≡ its.begins.entry =
+      same-entry T completed.fit.begun reception.begins.entry its.begins.entry reception.begins.stands its.begins.stands in
+      let same_start : other ≡ start = (let one = reception.begins.kind in let two = its.begins.kind in cc) in
+      let same_count = one-count in_first start.rx_dl start.len reception.count its.count
+      (subst (λ s. IsConsecutiveCount in_first s.rx_dl s.len reception.count) same_start
+      (subst (λ f. IsConsecutiveCount (bytes_in_first f.frame.bytes) other.rx_dl other.len reception.count) same_frame reception.least))
       its.least in
       let counts : consecutive_by (role d completed.fit.next.entry) ≡ 1 = ap consecutive_by completed.fit.next.kind in
       absurd (omega (

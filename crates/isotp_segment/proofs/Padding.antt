@@ -54,8 +54,10 @@ full_frame control [] chunk first = absurd (omega (arith, first.enough))
 full_frame control (byte ∷ bytes) chunk first =
     ap (λ l. slice_set l 0 control) first.same ∙ padded-whole (control ∷ []) bytes (omega arith) (omega (arith, first.enough))
 
-pub full_frame_at : (control place before : ℕ) (message chunk : List ℕ) → before + 1 ≡ place → IsFirstChunk (take (length message - before) (drop before message)) chunk 8
+pub full_frame_at : (control place before : ℕ) (message chunk : List ℕ) → before + 1 ≡ place
+    → IsFirstChunk (take (length message - before) (drop before message)) chunk 8
     → slice_set chunk 0 control ≡ padded (control ∷ []) (drop place message)
 full_frame_at control place before message chunk is first =
     let rest = take_all (length message - before) (drop before message) (omega (arith, length-drop before message)) in
-    full_frame control _ chunk first ∙ ap (λ l. padded (control ∷ []) (drop 1 l)) rest ∙ ap (padded (control ∷ [])) (drop-drop 1 before message ∙ ap (λ n. drop n message) is)
+    full_frame control _ chunk first ∙ ap (λ l. padded (control ∷ []) (drop 1 l)) rest
+    ∙ ap (padded (control ∷ [])) (drop-drop 1 before message ∙ ap (λ n. drop n message) is)

@@ -13,7 +13,8 @@ abbrev pub positions_of : List ℕ → ℕ → List ℕ
 positions_of message begun =
     cond (nat_le (length message) 7) (begun ∷ []) (begun ∷ range_with_len (begun + 2) (consecutive_count (length message)))
 
-pub position-bounds : (message : List ℕ) (begun p : ℕ) → IsIn p (positions_of message begun) → (begun ≤ p) × (p < begun + frame_count (length message))
+pub position-bounds : (message : List ℕ) (begun p : ℕ) → IsIn p (positions_of message begun)
+    → (begun ≤ p) × (p < begun + frame_count (length message))
 position-bounds message begun p i = elim (cases_Bool (nat_le (length message) 7)) [
   | inl t ↦ rw t (elim (rw t at i) [ inl here ↦ (omega arith, omega arith) | inr none ↦ absurd none ])
   | inr t ↦ rw t (elim (rw t at i) [

@@ -80,7 +80,8 @@ module _ (identifier : Dir → Id) (line micros limit : ℕ) (bits : limit < 2 ^
       ]
     ]
 
-  pub frames-recording : (M : List Message) → AllByRecursion (HasFrames limit) M → IsRecording limit (timed identifier line micros (all_frames limit M)) M
+  pub frames-recording : (M : List Message) → AllByRecursion (HasFrames limit) M
+      → IsRecording limit (timed identifier line micros (all_frames limit M)) M
   frames-recording M sizes = record {
     transfers = transfers_from 0 M;
     messages = messages-same M 0;
@@ -94,7 +95,8 @@ module _ (identifier : Dir → Id) (line micros limit : ℕ) (bits : limit < 2 ^
   their-transfers M sizes = refl
 
   -- before the last of its frames a message is not ended
-  pub frames-ended : (d : Dir) (message : List ℕ) (sizes : AllByRecursion (HasFrames limit) ((d, message) ∷ [])) (n : ℕ) → n < frame_count (length message)
+  pub frames-ended : (d : Dir) (message : List ℕ) (sizes : AllByRecursion (HasFrames limit) ((d, message) ∷ [])) (n : ℕ)
+      → n < frame_count (length message)
       → ended_within n (frames-recording ((d, message) ∷ []) sizes).transfers ≡ []
   unfolding frames-recording
   frames-ended d message sizes n below =

@@ -32,7 +32,8 @@ picked message =
     let bytes = swz_l w8 16 (widened (ends_of message)) 0 (widened (get_or PLACES (length message) [])) in
     zip2 bit_or (get_or BLANKS (length message) []) (pick_l 0 (bytes ++ bytes) (range_with_len 0 8))
 
-pub picked_is_padded : (message : List ℕ) → 1 ≤ length message → length message ≤ 7 → picked message ≡ padded (single_control (length message)) message
+pub picked_is_padded : (message : List ℕ) → 1 ≤ length message → length message ≤ 7
+    → picked message ≡ padded (single_control (length message)) message
 unfolding padded
 picked_is_padded [] some short = absurd (omega arith)
 picked_is_padded (a ∷ []) some short = refl
@@ -48,4 +49,5 @@ picked_is_padded (a ∷ b ∷ c ∷ d ∷ e ∷ f ∷ g ∷ h ∷ more) some sho
 pub picked_is_alone : (limit : ℕ) (direction : Dir) (message : List ℕ) → 1 ≤ length message → length message ≤ 7 → length message ≤ limit
     → canonical_frames limit direction message ≡ (direction, picked message) ∷ []
 picked_is_alone limit direction message some short fits =
-    canonical_frames-short limit direction message some short fits ∙ ap (λ (frame : List ℕ). (direction, frame) ∷ []) (sym (picked_is_padded message some short))
+    canonical_frames-short limit direction message some short fits
+    ∙ ap (λ (frame : List ℕ). (direction, frame) ∷ []) (sym (picked_is_padded message some short))

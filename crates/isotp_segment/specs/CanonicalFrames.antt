@@ -1,5 +1,5 @@
--- The canonical frames of a message: classic frames of 8 bytes with normal addressing (ISO 15765-2, section 9.6), each
--- by its number and by the place in the message where its bytes begin.
+-- The canonical frames of a message: classic frames of 8 bytes with normal addressing (ISO 15765-2:2016, section 9.6),
+-- each by its number and by the place in the message where its bytes begin. Sections are of that standard.
 use Rattle.std.specs.Prelude.{◌≡◌, ◌≢◌, ℕ, ◌+◌, ◌-◌, ◌/◌, ◌%◌, ◌^◌, ◌≤◌, ◌⊎◌, List, [], ◌∷◌, ◌++◌, length, map, take, drop, replicate, slice_get, Some, nat_le, ◌==◌, ◌&&◌, if◌then◌else◌}
 use Rattle.std.specs.List.{range_with_len}
 use Rattle.direction.specs.Dir.{other_direction}
@@ -38,7 +38,8 @@ continue_control = first_byte 3 (status_number Continue) ∷ 0 ∷ 0 ∷ []
 abbrev pub room_in_first : ℕ → ℕ
 room_in_first len = if nat_le len 4095 then 6 else 2
 
--- the place in the message where the bytes of consecutive frame `number` begin (section 9.6.4); these frames are counted from 1
+-- the place in the message where the bytes of consecutive frame `number` begin (section 9.6.4); these frames are
+-- counted from 1
 abbrev pub place_of : ℕ → ℕ → ℕ
 place_of len number = bytes_before (room_in_first len) 8 (number - 1)
 
@@ -54,8 +55,8 @@ consecutive_count len = (len - room_in_first len + 6) / 7
 abbrev pub frame_count : ℕ → ℕ
 frame_count len = if nat_le len 7 then 1 else 2 + consecutive_count len
 
--- Frame `number` of a message, from 0, and who sends it: a single frame, or a first frame, the continue frame of the other
--- side, and the consecutive frames.
+-- Frame `number` of a message, from 0, and who sends it: a single frame, or a first frame, the continue frame of the
+-- other side, and the consecutive frames.
 unfoldable pub canonical_frame : Dir → List ℕ → ℕ → Dir × List ℕ
 canonical_frame direction message number =
     if nat_le (length message) 7 then (direction, padded (single_control (length message)) message)
@@ -70,8 +71,8 @@ canonical_frames limit direction message =
     then map (canonical_frame direction message) (range_with_len 0 (frame_count (length message)))
     else []
 
--- The next of these frames is a consecutive one of this sender that its message fills: another frame comes behind it, or
--- it does not end in padding. (Where a message itself ends in a byte of that value, its last frame does not tell.)
+-- The next of these frames is a consecutive one of this sender that its message fills: another frame comes behind it,
+-- or it does not end in padding. (Where a message itself ends in a byte of that value, its last frame does not tell.)
 pub record IsFullNext (sender : Dir) (frames : List (Dir × List ℕ)) : Type 0 where
   pub number : ℕ
   pub part : List ℕ

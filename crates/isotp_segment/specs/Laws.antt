@@ -15,8 +15,8 @@ use Rattle.isotp_receive.specs.CleanTrace.{IsClean}
 use Rattle.isotp_segment.specs.CanonicalFrames.{room_in_first, consecutive_count, frame_count, canonical_frames}
 use Rattle.isotp_segment.specs.Timed.{timed, HasFrames, all_frames}
 
--- how many frames a message has by the count: one up to 7 bytes, and above that the first frame, the continue frame and the
--- consecutive ones
+-- how many frames a message has by the count: one up to 7 bytes, and above that the first frame, the continue frame and
+-- the consecutive ones
 abbrev pub FrameCountByLength : Type 0
 FrameCountByLength = (len : ℕ) → (len ≤ 7 → frame_count len ≡ 1) × (7 < len → frame_count len ≡ 2 + consecutive_count len)
 
@@ -50,7 +50,8 @@ abbrev pub CanonicalFramesAreARecording : Type 0
 CanonicalFramesAreARecording = (limit : ℕ) (identifier : Dir → Id) (line micros : ℕ) (M : List Message)
     → limit < 2 ^ 32 → AllByRecursion (HasFrames limit) M → IsRecording limit (timed identifier line micros (all_frames limit M)) M
 
--- the canonical frames of any messages, a millisecond apart, are a clean trace: none of them is dropped or ends a reception, and nothing stands after the last
+-- the canonical frames of any messages, a millisecond apart, are a clean trace: none of them is dropped or ends a
+-- reception, and nothing stands after the last
 abbrev pub CanonicalFramesAreClean : Type 0
 CanonicalFramesAreClean = (limit : ℕ) (identifier : Dir → Id) (line micros : ℕ) (M : List Message)
     → limit < 2 ^ 32 → AllByRecursion (HasFrames limit) M → IsClean limit (timed identifier line micros (all_frames limit M))

@@ -1,4 +1,4 @@
-//! Laws of canonical frames, for the proofs of callers: functions that do nothing.
+//! Laws of canonical frames, for the proofs of callers. Each law is its contract; a call does nothing.
 
 ghost use Rattle.isotp_segment.specs.Laws.{FrameCountByLength, ConsecutiveCountIsLeast, CanonicalFramesHaveEightBytes, ShortMessageIsOneFrame};
 ghost use Rattle.isotp_segment.specs.Laws.{CanonicalFramesAreARecording, CanonicalFramesAreClean, CanonicalFramesDeliver, CanonicalFramesDeliverNothingBefore};
@@ -23,15 +23,15 @@ pub fn short_message_is_one_frame()
     ensures { ShortMessageIsOneFrame }
 {}
 
-/// The canonical frames of any messages, each a millisecond after the one before, are a recording of these messages: from any
-/// line and time on, and under any two identifiers.
+/// The canonical frames of any messages, each a millisecond after the one before, are a recording of these messages:
+/// from any line and time on, and under any two identifiers.
 pub fn canonical_frames_are_a_recording()
     ensures { CanonicalFramesAreARecording }
 {}
 
-/// The canonical frames of any messages, each a millisecond after the one before, are a clean trace: no frame is dropped, none ends a reception, and nothing is left over. So each stands on the
-/// side, in the place and at the time where a receiver waits for it: a continue frame from the side of the message would be
-/// dropped.
+/// The canonical frames of any messages, each a millisecond after the one before, are a clean trace: no frame is
+/// dropped, none ends a reception, and nothing is left over. So each stands on the side, in the place and at the time
+/// where a receiver waits for it: a continue frame from the side of the message would be dropped.
 pub fn canonical_frames_are_clean()
     ensures { CanonicalFramesAreClean }
 {}

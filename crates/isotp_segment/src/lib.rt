@@ -1,9 +1,10 @@
 //! A message as ISO-TP frames of one fixed spelling: its *canonical* frames.
 //!
-//! ISO 15765-2 leaves the sender of a message many choices: the size of the frames, the padding, the flow control. Here each
-//! choice is made once, so that equal messages become equal frames: classic frames of 8 bytes, padded with `CC`, and one continue
-//! frame from the other side directly after a first frame. The frames are made one at a time, from the message itself; nothing is
-//! allocated. [`frame_count`] tells how many they are, and a message of one frame has it by [`single_frame`].
+//! ISO 15765-2 leaves the sender of a message many choices: the size of the frames, the padding, the flow control. Here
+//! each choice is made once, so that equal messages become equal frames: classic frames of 8 bytes, padded with `CC`,
+//! and one continue frame from the other side directly after a first frame. The frames are made one at a time, from the
+//! message itself; nothing is allocated. [`frame_count`] tells how many they are, and a message of one frame has it by
+//! [`single_frame`].
 //!
 //! ```
 //! let answer = [0x62, 0xF1, 0x90, 0x41, 0x42, 0x43, 0x44, 0x45];

@@ -66,8 +66,8 @@ impl<'a> Segments<'a> {
         ensures none { IfNone result (self.new ≡ self.old) }
         ensures misses_none { IsFullNext sender self.old → IsSome result }
     {
-        // Frames 0 and 1 are the first frame and the continue frame: frame 2 is consecutive frame 1. A message of one frame has no
-        // frame 2.
+        // Frames 0 and 1 are the first frame and the continue frame: frame 2 is consecutive frame 1. A message of one
+        // frame has no frame 2.
         if self.number < 2 || self.count <= self.number || sender != self.dir {
             return None;
         }

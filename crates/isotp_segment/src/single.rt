@@ -1,5 +1,5 @@
-//! The frame of a message that one frame holds. Most messages are such, and a copy of so few bytes, whose number is known
-//! only when it runs, would be a call: so they are put in their places all at once, by lanes.
+//! The frame of a message that one frame holds. Most messages are such, and a copy of so few bytes, whose number is
+//! known only when it runs, would be a call: so they are put in their places all at once, by lanes.
 //!
 //! ```text
 //! message                62 F1 90 41 42
@@ -52,18 +52,19 @@ static PLACES: [[u8; 8]; 8] = [
 /// The place of no lane: what is picked there is 0.
 const GAP: u8 = 0x80;
 
-/// Eight lanes, and eight zeros behind them. One instruction picks among sixteen lanes, and gives 0 for a place of 0x80: so both
-/// the ends and their places are widened.
+/// Eight lanes, and eight zeros behind them. One instruction picks among sixteen lanes, and gives 0 for a place of
+/// 0x80: so both the ends and their places are widened.
 const WIDENED: [usize; 16] = [0, 1, 2, 3, 4, 5, 6, 7, 8, 9, 10, 11, 12, 13, 14, 15];
 
-/// The one canonical frame of a message of 1 to [`SINGLE_LIMIT`] bytes, whoever sends it: a single frame of 8 bytes, padded
-/// (ISO 15765-2, section 9.6.2).
+/// The one canonical frame of a message of 1 to [`SINGLE_LIMIT`] bytes, whoever sends it: a single frame of 8 bytes,
+/// padded (ISO 15765-2:2016, 9.6.2).
 #[inline(always)]
 pub fn single_frame(message: &[u8]) -> [u8; 8]
     requires some { 1 ≤ length message.now }
     requires single { length message.now ≤ SINGLE_LIMIT }
     ensures value { result ≡ padded (single_control (length message.now)) message.now }
-    ensures frames { (direction : Dir) → canonical_frames MESSAGE_LIMIT direction message.now ≡ (direction, result) ∷ [] }
+    ensures frames { (direction : Dir)
+        → canonical_frames MESSAGE_LIMIT direction message.now ≡ (direction, result) ∷ [] }
 {
     let len = message.len();
     let zeros = u8x8::splat(0);
@@ -73,8 +74,8 @@ pub fn single_frame(message: &[u8]) -> [u8; 8]
     (u8x8::from_array(BLANKS[len]) | bytes).to_array()
 }
 
-/// The first four bytes of the message and its last four, which may overlap. Of fewer than four bytes, the first, the one in
-/// the middle and the last. So how many bytes are read at once is known when it is compiled.
+/// The first four bytes of the message and its last four, which may overlap. Of fewer than four bytes, the first, the
+/// one in the middle and the last. So how many bytes are read at once is known when it is compiled.
 #[inline(always)]
 fn ends(message: &[u8]) -> u8x8
     requires some { 1 ≤ length message.now }

@@ -15,6 +15,7 @@ use Rattle.uds_exchange.specs.declared.step.Step.{Step}
 use Rattle.uds_exchange.specs.declared.step.Step.TheVariants as becomes
 use Rattle.uds_find.specs.Finding.{credit_line}
 use Rattle.uds_message.specs.Message.{sid, is_negative_response, response_code, is_suppressing}
+use Rattle.uds_rules.specs.Rule.{RuleValue}
 use Rattle.trace_canon.specs.declared.comparer.Comparison.{Comparison}
 use Rattle.trace_canon.specs.declared.comparer.Comparison.TheVariants.{Same, Different}
 use Rattle.trace_text.specs.declared.item_style.Numbering.{Numbering}
@@ -24,20 +25,21 @@ use Rattle.trace_text.specs.declared.remark.Remark.TheVariants as remark
 use Rattle.trace_canon.specs.ComparisonText.{shown_members, shown_value, comparison_members}
 use Rattle.trace_text.specs.RemarkLines.{cause_text, layout_fault_text, reason_members, remark_members}
 use Rattle.trace_canon.specs.CreditLines.{credit_object}
-use Rattle.trace_text.specs.Json.{Members, null, truth, number, string, object, nothing, member}
+use Rattle.trace_text.specs.Json.{Members, null, truth, number, pair, string, object, nothing, member}
 use Rattle.trace_text.specs.ItemLines.{answer_members, outcome_members, item_members, item_object}
 use Rattle.trace_canon.specs.MessagesScript.{placed_members}
 use Rattle.trace_text.specs.Words.{role_text}
-use Rattle.trace_text.specs.Words.{bytes_text, direction_text, service_text, code_text}
-use Rattle.trace_text.proofs.Promises.{bytes_word, service_word, code_word}
+use Rattle.trace_text.specs.RuledText.{ruled_text}
+use Rattle.trace_text.specs.Words.{direction_text, service_text, code_text}
+use Rattle.trace_text.proofs.Promises.{ruled_word, service_word, code_word}
 use Rattle.json_reading.specs.Laws.{ItemsAreReadAsMeant, MessagesAreReadAsMeant, RemarksAreReadAsMeant, ComparisonsAreReadAsMeant, PairsAreReadAsMeant}
 use Rattle.json_reading.proofs.PlainTexts.{IsPlain, is_plain, plain, word_plain, identifier_plain, stamp_plain}
 use Rattle.json_reading.proofs.ReadTrees.{IsPlainValue, ArePlain, read_as_meant}
 
 -- ---- the words between quotes
 
-bytes_plain : (bytes : List ℕ) → IsPlain (bytes_text bytes)
-bytes_plain bytes = word_plain (bytes_text bytes) (bytes_word bytes)
+message_plain : (rules : List RuleValue) (message : List ℕ) → IsPlain (ruled_text rules message)
+message_plain rules message = word_plain (ruled_text rules message) (ruled_word rules message)
 
 direction_plain : (d : Dir) → IsPlain (direction_text d)
 direction_plain dir.Tester = plain (codes "tester") refl
@@ -84,12 +86,13 @@ are_plain deep (member key (string text) later) so =
     (plain key first.0, plain text second.0, are_plain deep later second.1)
 are_plain deep (member key null later) so = absurd (true≢false (sym so))
 are_plain deep (member key (truth b) later) so = absurd (true≢false (sym so))
+are_plain deep (member key (pair one other) later) so = absurd (true≢false (sym so))
 are_plain deep (member key (object members) later) so = absurd (true≢false (sym so))
 
 -- ---- items
 
-answer_plain : (deep : ℕ) (b : Bool) (reply : List ℕ) → is_negative_response reply ≡ b → ArePlain deep (answer_members reply)
-answer_plain deep true reply so =
+answer_plain : (rules : List RuleValue) (deep : ℕ) (b : Bool) (reply : List ℕ) → is_negative_response reply ≡ b → ArePlain deep (answer_members rules reply)
+answer_plain rules deep true reply so =
     rw so (
       plain (codes "outcome") refl,
       plain (codes "negative") refl,
@@ -98,24 +101,24 @@ answer_plain deep true reply so =
         word_plain (code_text (response_code reply)) (code_word (response_code reply)),
         (
           plain (codes "answer") refl,
-          bytes_plain reply,
+          message_plain rules reply,
           tt,
         ),
       ),
     )
-answer_plain deep false reply so =
-    rw so (plain (codes "outcome") refl, plain (codes "positive") refl, (plain (codes "answer") refl, bytes_plain reply, tt))
+answer_plain rules deep false reply so =
+    rw so (plain (codes "outcome") refl, plain (codes "positive") refl, (plain (codes "answer") refl, message_plain rules reply, tt))
 
-none_plain : (deep : ℕ) (b : Bool) (request : List ℕ) → is_suppressing request ≡ b → ArePlain deep (outcome_members request None)
-none_plain deep true request so = rw so (plain (codes "outcome") refl, plain (codes "silent") refl, tt)
-none_plain deep false request so = rw so (plain (codes "outcome") refl, plain (codes "unanswered") refl, tt)
+none_plain : (rules : List RuleValue) (deep : ℕ) (b : Bool) (request : List ℕ) → is_suppressing request ≡ b → ArePlain deep (outcome_members rules request None)
+none_plain rules deep true request so = rw so (plain (codes "outcome") refl, plain (codes "silent") refl, tt)
+none_plain rules deep false request so = rw so (plain (codes "outcome") refl, plain (codes "unanswered") refl, tt)
 
-outcome_plain : (deep : ℕ) (request : List ℕ) (reply : Option (List ℕ)) → ArePlain deep (outcome_members request reply)
-outcome_plain deep request (Some reply) = answer_plain deep (is_negative_response reply) reply refl
-outcome_plain deep request None = none_plain deep (is_suppressing request) request refl
+outcome_plain : (rules : List RuleValue) (deep : ℕ) (request : List ℕ) (reply : Option (List ℕ)) → ArePlain deep (outcome_members rules request reply)
+outcome_plain rules deep request (Some reply) = answer_plain rules deep (is_negative_response reply) reply refl
+outcome_plain rules deep request None = none_plain rules deep (is_suppressing request) request refl
 
-item_plain : (deep : ℕ) (item : ItemValue) → ArePlain deep (item_members item)
-item_plain deep (exchange request reply) = (
+item_plain : (rules : List RuleValue) (deep : ℕ) (item : ItemValue) → ArePlain deep (item_members rules item)
+item_plain rules deep (exchange request reply) = (
   plain (codes "kind") refl,
   plain (codes "exchange") refl,
   (
@@ -123,12 +126,12 @@ item_plain deep (exchange request reply) = (
     word_plain (service_text (sid request)) (service_word (sid request)),
     (
       plain (codes "request") refl,
-      bytes_plain request,
-      outcome_plain deep request reply,
+      message_plain rules request,
+      outcome_plain rules deep request reply,
     ),
   ),
 )
-item_plain deep (stray d bytes) = (
+item_plain rules deep (stray d bytes) = (
   plain (codes "kind") refl,
   plain (codes "stray") refl,
   (
@@ -136,18 +139,18 @@ item_plain deep (stray d bytes) = (
     direction_plain d,
     (
       plain (codes "message") refl,
-      bytes_plain bytes,
+      message_plain rules bytes,
       tt,
     ),
   ),
 )
 
-numbered_plain : (deep : ℕ) (numbering : Numbering) (n : ℕ) (item : ItemValue) → ArePlain deep (item_object numbering n item)
-numbered_plain deep Shown n item = (plain (codes "item") refl, tt, item_plain deep item)
-numbered_plain deep Hidden n item = item_plain deep item
+numbered_plain : (rules : List RuleValue) (deep : ℕ) (numbering : Numbering) (n : ℕ) (item : ItemValue) → ArePlain deep (item_object rules numbering n item)
+numbered_plain rules deep Shown n item = (plain (codes "item") refl, tt, item_plain rules deep item)
+numbered_plain rules deep Hidden n item = item_plain rules deep item
 
 pub items_are_read_as_meant : ItemsAreReadAsMeant
-items_are_read_as_meant numbering n item = read_as_meant (item_object numbering n item) (numbered_plain 1 numbering n item)
+items_are_read_as_meant rules numbering n item = read_as_meant (item_object rules numbering n item) (numbered_plain rules 1 numbering n item)
 
 -- ---- messages with their places
 
@@ -159,8 +162,8 @@ role_plain becomes.Hold = plain (codes "stray") refl
 role_plain becomes.Pass = plain (codes "stray") refl
 
 pub messages_are_read_as_meant : MessagesAreReadAsMeant
-messages_are_read_as_meant placed =
-    read_as_meant (placed_members placed) (
+messages_are_read_as_meant rules placed =
+    read_as_meant (placed_members rules placed) (
       plain (codes "item") refl,
       tt,
       (
@@ -183,7 +186,7 @@ messages_are_read_as_meant placed =
                   stamp_plain placed.extent.last.micros,
                   (
                     plain (codes "message") refl,
-                    bytes_plain placed.sent.1,
+                    message_plain rules placed.sent.1,
                     tt,
                   ),
                 ),
@@ -288,52 +291,57 @@ remarks_are_read_as_meant told = read_as_meant (remark_members told) (remark_pla
 
 -- ---- comparisons
 
-shown_plain : (n : ℕ) (item : Option ItemValue) → IsPlainValue 1 (shown_value n item)
-shown_plain n (Some item) = numbered_plain 0 Shown n item
-shown_plain n None = tt
+shown_plain : (rules : List RuleValue) (n : ℕ) (item : Option ItemValue) → IsPlainValue 1 (shown_value rules n item)
+shown_plain rules n (Some item) = numbered_plain rules 0 Shown n item
+shown_plain rules n None = tt
 
-both_plain : (place : ℕ) (left right : List ItemValue) → ArePlain 1 (shown_members place left right)
-both_plain place left right = (
+both_plain : (rules : List RuleValue) (place : ℕ) (left right : List ItemValue) → ArePlain 1 (shown_members rules place left right)
+both_plain rules place left right = (
   plain (codes "left") refl,
-  shown_plain (place + 1) (slice_get left place),
+  shown_plain rules (place + 1) (slice_get left place),
   (
     plain (codes "right") refl,
-    shown_plain (place + 1) (slice_get right place),
+    shown_plain rules (place + 1) (slice_get right place),
     tt,
   ),
 )
 
-comparison_plain : (shows : Bool) (comparison : Comparison) (left right : List ItemValue) → ArePlain 1 (comparison_members shows comparison left right)
-comparison_plain shows Same left right = (plain (codes "same") refl, tt, tt)
-comparison_plain true (Different place) left right = (
+comparison_plain : (rules : List RuleValue) (shows : Bool) (comparison : Comparison) (left right : List ItemValue)
+    → ArePlain 1 (comparison_members rules shows comparison left right)
+comparison_plain rules shows Same left right = (plain (codes "same") refl, tt, tt)
+comparison_plain rules true (Different place) left right = (
   plain (codes "same") refl,
   tt,
   (
     plain (codes "item") refl,
     tt,
-    both_plain place left right,
+    both_plain rules place left right,
   ),
 )
-comparison_plain false (Different place) left right = (plain (codes "same") refl, tt, (plain (codes "item") refl, tt, tt))
+comparison_plain rules false (Different place) left right = (plain (codes "same") refl, tt, (plain (codes "item") refl, tt, tt))
 
 pub comparisons_are_read_as_meant : ComparisonsAreReadAsMeant
-comparisons_are_read_as_meant shows comparison left right =
-    read_as_meant (comparison_members shows comparison left right) (comparison_plain shows comparison left right)
+comparisons_are_read_as_meant rules shows comparison left right =
+    read_as_meant (comparison_members rules shows comparison left right) (comparison_plain rules shows comparison left right)
 
 -- ---- pairs
 
 pub pairs_are_read_as_meant : PairsAreReadAsMeant
-pairs_are_read_as_meant counted =
-    read_as_meant (credit_object (credit_line counted)) (
+pairs_are_read_as_meant frames sides =
+    read_as_meant (credit_object (credit_line frames sides)) (
       plain (codes "credits") refl,
       tt,
       (
-        plain (codes "tester") refl,
-        identifier_plain counted.0.tester,
+        plain (codes "requests") refl,
+        tt,
         (
-          plain (codes "unit") refl,
-          identifier_plain counted.0.unit,
-          tt,
+          plain (codes "tester") refl,
+          identifier_plain sides.tester,
+          (
+            plain (codes "unit") refl,
+            identifier_plain sides.unit,
+            tt,
+          ),
         ),
       ),
     )

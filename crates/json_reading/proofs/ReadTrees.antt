@@ -15,7 +15,7 @@ use Rattle.serde_json.specs.Read.{max_depth, of_json, of_members}
 use Rattle.serde_json.proofs.Numbers.{number_of-decimal}
 use Rattle.json_reading.specs.ReadBack.{meant, with_members, HasNumbersOf64Bits, HaveNumbersOf64Bits, IsReadAsMeant}
 use Rattle.json_reading.proofs.PlainTexts.{IsPlain, quoted_plain}
-use Rattle.trace_text.specs.Json.{Value, null, truth, number, string, object, Members, nothing, member, value_text, members_text, later_text}
+use Rattle.trace_text.specs.Json.{Value, null, truth, number, pair, string, object, Members, nothing, member, value_text, members_text, later_text}
 
 -- the value as the reader's grammar has it
 abbrev mutual
@@ -23,6 +23,7 @@ abbrev mutual
   tree null = json.null
   tree (truth b) = json.boolean b
   tree (number n) = json.number (decimal n)
+  tree (pair one other) = json.array (json.item (json.number (decimal one)) (json.item (json.number (decimal other)) json.no_items))
   tree (string text) = json.string text
   tree (object members) = json.object (trees members)
 
@@ -30,12 +31,14 @@ abbrev mutual
   trees nothing = json.no_members
   trees (member key value later) = json.member key (tree value) (trees later)
 
--- every key and string is plain, and objects are nested so deep at most
+-- every key and string is plain, and objects and arrays are nested so deep at most
 abbrev mutual
   pub IsPlainValue : ℕ → Value → Type 0
   IsPlainValue deep null = ⊤
   IsPlainValue deep (truth b) = ⊤
   IsPlainValue deep (number n) = ⊤
+  IsPlainValue zero (pair one other) = ⊥
+  IsPlainValue (suc deep) (pair one other) = ⊤
   IsPlainValue deep (string text) = IsPlain text
   IsPlainValue zero (object members) = ⊥
   IsPlainValue (suc deep) (object members) = ArePlain deep members
@@ -67,6 +70,9 @@ print_member key value later ts plain first rest =
     ap₂ (λ q s. (q ++ 58 ∷ []) ++ s) (quoted_plain key plain) whole
     ∙ regroup (34 ∷ (key ++ 34 ∷ []) ++ 58 ∷ []) (value_text value) (later_text later) (codes "}" ++ print_from true ts)
 
+array_is : (one other rest : List ℕ) → 91 ∷ (one ++ (44 ∷ (other ++ (93 ∷ rest)))) ≡ (codes "[" ++ one ++ codes "," ++ other ++ codes "]") ++ rest
+array_is one other rest = simp append_assoc
+
 mutual
   unfolding print_from
 
@@ -80,6 +86,9 @@ mutual
   print_value deep false (truth false) ts is = refl
   print_value deep true (number n) ts is = refl
   print_value deep false (number n) ts is = refl
+  print_value zero after (pair one other) ts is = absurd is
+  print_value (suc deep) true (pair one other) ts is = ap (λ s. 44 ∷ s) (array_is (decimal one) (decimal other) (print_from true ts))
+  print_value (suc deep) false (pair one other) ts is = array_is (decimal one) (decimal other) (print_from true ts)
   print_value deep true (string text) ts is = ap (λ q. 44 ∷ (q ++ print_from true ts)) (quoted_plain text is)
   print_value deep false (string text) ts is = ap (λ q. q ++ print_from true ts) (quoted_plain text is)
   print_value zero after (object members) ts is = absurd is
@@ -109,6 +118,7 @@ mutual
   tree_means null fits = refl
   tree_means (truth b) fits = refl
   tree_means (number n) fits = ap (option_map reader.number) (number_of-decimal n fits)
+  tree_means (pair one other) fits = rw (number_of-decimal one fits.0, number_of-decimal other fits.1) refl
   tree_means (string text) fits = refl
   tree_means (object members) fits = ap (option_map reader.object) (trees_mean members reader.no_members fits)
 
@@ -122,6 +132,7 @@ mutual
   tree_has_numbers null fits = tt
   tree_has_numbers (truth b) fits = tt
   tree_has_numbers (number n) fits = IsNumber-decimal n fits
+  tree_has_numbers (pair one other) fits = (IsNumber-decimal one fits.0, (IsNumber-decimal other fits.1, tt))
   tree_has_numbers (string text) fits = tt
   tree_has_numbers (object members) fits = trees_have_numbers members fits
 
@@ -134,6 +145,8 @@ mutual
   tree_depth deep null is = omega arith
   tree_depth deep (truth b) is = omega arith
   tree_depth deep (number n) is = omega arith
+  tree_depth zero (pair one other) is = absurd is
+  tree_depth (suc deep) (pair one other) is = omega arith
   tree_depth deep (string text) is = omega arith
   tree_depth zero (object members) is = absurd is
   tree_depth (suc deep) (object members) is = omega (arith, trees_depth deep members is)

@@ -1,5 +1,6 @@
 -- What is told as JSON is read as it is meant.
 use Rattle.std.specs.Prelude.{ℕ, Bool, List}
+use Rattle.can_log.specs.Frame.{FrameValue}
 use Rattle.json_reading.specs.ReadBack.{IsReadAsMeant}
 use Rattle.trace_canon.specs.declared.comparer.Comparison.{Comparison}
 use Rattle.trace_text.specs.declared.item_style.Numbering.{Numbering}
@@ -10,16 +11,17 @@ use Rattle.trace_canon.specs.CreditLines.{credit_object}
 use Rattle.trace_text.specs.ItemLines.{item_object}
 use Rattle.trace_canon.specs.MessagesScript.{PlacedMessage, placed_members}
 use Rattle.uds_exchange.specs.Meaning.{ItemValue}
+use Rattle.uds_rules.specs.Rule.{RuleValue}
 use Rattle.uds_find.specs.Finding.{credit_line}
 use Rattle.uds_find.specs.declared.pair.IdPair.{IdPair}
 
--- an item of a list, with its number or without
+-- an item of a list, with its number or without, whatever the rules
 abbrev pub ItemsAreReadAsMeant : Type 0
-ItemsAreReadAsMeant = (numbering : Numbering) (n : ℕ) (item : ItemValue) → IsReadAsMeant (item_object numbering n item)
+ItemsAreReadAsMeant = (rules : List RuleValue) (numbering : Numbering) (n : ℕ) (item : ItemValue) → IsReadAsMeant (item_object rules numbering n item)
 
 -- a message with its place
 abbrev pub MessagesAreReadAsMeant : Type 0
-MessagesAreReadAsMeant = (placed : PlacedMessage) → IsReadAsMeant (placed_members placed)
+MessagesAreReadAsMeant = (rules : List RuleValue) (placed : PlacedMessage) → IsReadAsMeant (placed_members rules placed)
 
 -- a remark that explains a log
 abbrev pub RemarksAreReadAsMeant : Type 0
@@ -28,8 +30,9 @@ RemarksAreReadAsMeant = (told : Remark) → IsReadAsMeant (remark_members told)
 -- a comparison, with the items that differ or without
 abbrev pub ComparisonsAreReadAsMeant : Type 0
 ComparisonsAreReadAsMeant =
-    (shows : Bool) (comparison : Comparison) (left right : List ItemValue) → IsReadAsMeant (comparison_members shows comparison left right)
+    (rules : List RuleValue) (shows : Bool) (comparison : Comparison) (left right : List ItemValue)
+    → IsReadAsMeant (comparison_members rules shows comparison left right)
 
--- a pair of identifiers, with the number of its credits
+-- a pair of identifiers, with the number of its credits and of its tester's requests
 abbrev pub PairsAreReadAsMeant : Type 0
-PairsAreReadAsMeant = (counted : IdPair × ℕ) → IsReadAsMeant (credit_object (credit_line counted))
+PairsAreReadAsMeant = (frames : List FrameValue) (pair : IdPair) → IsReadAsMeant (credit_object (credit_line frames pair))

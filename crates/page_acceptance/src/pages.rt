@@ -168,7 +168,8 @@ const EACH_ROW: &str = "\
 (0.005000) can0 7E8#100A62F191414243
 ";
 
-/// What is printed of it: each type with its name and its fields, the bytes of a message as numbers.
+/// What is printed of it, in front of the rules that it is under: each type with its name and its fields, the bytes of a message
+/// as numbers.
 const PRINTED: &str = "KeptSession { rows: [\
 Message { sent: SentMessage { role: Request, dir: Tester, place: MessagePlace { item: 1, \
 first: FramePlace { line: 1, micros: 0 }, last: FramePlace { line: 1, micros: 0 }, frames: 1 } }, message: [34, 241, 144] }, \
@@ -181,7 +182,7 @@ first: FramePlace { line: 5, micros: 4000 }, last: FramePlace { line: 5, micros:
 Missing(Unfinished { dir: Unit, line: 6, len: 10 }), \
 Missing(NoAnswer { number: 2, silent: false })], \
 summary: Summary { lines: 6, frames: 6, tester_frames: 2, unit_frames: 4, messages: 3, dropped: 1, ended: 1, unfinished: 1, \
-pending: 0, ends_in_line_feed: true, looks_exchanged: false }, times: Some(Times { first: 0, last: 5000 }) }";
+pending: 0, left_out: 0, ends_in_line_feed: true, looks_exchanged: false }, times: Some(Times { first: 0, last: 5000 })";
 
 #[test]
 fn a_session_that_is_kept_is_printed(rt: HostRuntime) -> Result<(), Fail> {
@@ -189,7 +190,9 @@ fn a_session_that_is_kept_is_printed(rt: HostRuntime) -> Result<(), Fail> {
     let (answer, _) = kept(alloc, EACH_ROW.as_bytes(), "".as_bytes())?;
     let both = answer.or(Err("not kept"))?;
     let left = format!(in alloc; "{:?}", both.left())?;
-    assert_eq!(rt; left.as_str(), PRINTED);
+    let rules = format!(in alloc; "{:?}", both.left().rules())?;
+    let printed = format!(in alloc; "{PRINTED}, rules: {rules}, spoken: [] }}")?;
+    assert_eq!(rt; left.as_str(), printed.as_str());
     let right = format!(in alloc; "{:?}", both.right())?;
     let whole = format!(in alloc; "KeptSessions {{ left: {left}, right: {right} }}")?;
     assert_eq!(rt; format!(in alloc; "{both:?}")?.as_str(), whole.as_str());

@@ -6,7 +6,7 @@ use isotp_receive::{Pair, Verdict};
 use std::alloc::Global;
 use std::io::{Error, ErrorKind, Result as IoResult, Write};
 use std::test::Fail;
-use trace_canon::Comparison;
+use trace_canon::{Comparison, CreditStyle};
 use trace_difference::in_memory::CountedDifference;
 use trace_io::{Reading, Writing};
 use trace_log::{CompareFault, Fault, Summary};
@@ -228,7 +228,8 @@ fn answer_of(
         Call::Normalise => trace_canon::normalise(alloc, &config, &mut reader, &mut writer),
         Call::List => trace_canon::list(alloc, &config, NUMBERED, &mut reader, &mut writer),
         Call::Find => {
-            trace_canon::find(alloc, &config, Notation::Text, &mut reader, &mut writer)
+            let style = CreditStyle::Lines(Notation::Text);
+            trace_canon::find(alloc, &config, style, &mut reader, &mut writer)
         }
     };
     Ok((answer, writer.into_inner()))

@@ -3,8 +3,8 @@
 use crate::digest::Digest;
 use std::alloc::Global;
 use trace_canon::{
-    ComparisonStyle, compare, explain, find, in_memory, list, messages, normalise, watch,
-    write_comparison,
+    ComparisonStyle, CreditStyle, compare, explain, find, in_memory, list, messages, normalise,
+    watch, write_comparison,
 };
 use trace_io::{Bytes, Writing};
 use trace_log::Config;
@@ -56,7 +56,10 @@ pub(crate) fn run_one(alloc: Global, config: &Config, job: Job, log: &[u8], dige
         Job::MessageObjects => messages(alloc, config, Notation::Json, &mut reader, &mut writer),
         Job::Watch => watch(alloc, config, NUMBERED, &mut reader, &mut writer),
         Job::Explain => explain(alloc, config, Notation::Text, &mut reader, &mut writer),
-        Job::Find => find(alloc, config, Notation::Text, &mut reader, &mut writer),
+        Job::Find => {
+            let style = CreditStyle::Lines(Notation::Text);
+            find(alloc, config, style, &mut reader, &mut writer)
+        }
         Job::Report => report(
             alloc,
             config,
@@ -81,7 +84,7 @@ pub(crate) fn run_compare(
     let mut writer = Writing::new(Digest::new());
     match compare(alloc, config, &mut Bytes::new(left), &mut Bytes::new(right)) {
         Ok(compared) => {
-            let _ = write_comparison(&compared, SHOWN, &mut writer);
+            let _ = write_comparison(&compared, SHOWN, config.rules(), &mut writer);
             digest.count(Some(&compared.left.summary));
             digest.count(Some(&compared.right.summary));
         }

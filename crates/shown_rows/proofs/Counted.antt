@@ -1,4 +1,4 @@
--- What the rows have in all.
+-- The rows of two sessions have all items of each.
 use Rattle.std.proofs.Common.{◌≡◌, ◌+◌, List, [], ◌∷◌, length, arith, refl}
 use Rattle.uds_exchange.specs.Meaning.{ItemValue}
 use Rattle.uds_difference.specs.Rows.{AreBeside, rows_of}

@@ -1,4 +1,4 @@
--- One row after another.
+-- Whether a change is among the next rows, and how far a hunk goes, row by row.
 use Rattle.std.proofs.Common.{◌≡◌, ℕ, zero, suc, ◌+◌, ◌*◌, ◌-◌, ◌≤◌, ◌<◌, min, true, false, List, [], ◌∷◌, length, take, drop, get_or, ap, sym, ◌∙◌, arith, refl, inl, inr}
 use Rattle.std.proofs.lemmas.Bool.{cases_lt}
 use Rattle.std.proofs.lemmas.List.{drop_all, drop_more, take_rest}

@@ -5,6 +5,7 @@ use Rattle.uds_difference.specs.declared.row.Row.{Row}
 use Rattle.shown_rows.specs.Hunks.{begins_hunk}
 use Rattle.shown_rows.specs.Rows.{context, is_change}
 
+-- one less, and 0 of none
 abbrev pub one_less : ℕ → ℕ
 one_less zero = 0
 one_less (suc count) = count

@@ -10,7 +10,7 @@ use uds_difference::Row;
 /// A change: two items that changed, or a run of items that only one session has.
 #[derive(Clone, Copy, Debug, PartialEq, Eq)]
 pub struct Change {
-    /// Of its rows, each.
+    /// The kind of each of its rows.
     pub kind: Row,
     /// How many items of the left session stand before it.
     pub left: usize,

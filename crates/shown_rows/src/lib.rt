@@ -10,6 +10,14 @@
 //! [folded ] [hunk                                                ] [fold]
 //!                          change 1          change 2
 //! ```
+//!
+//! | Part | Files | Definitions |
+//! |---|---|---|
+//! | which rows are a change, and how many items rows have | `rows` | `Rows` |
+//! | the hunks of a text | `hunks` | `Hunks` |
+//! | what a page shows, and what it folds | `folds` | `Folds` |
+//! | the changes, as a reader counts them | `changes` | `Changes` |
+//! | what holds of any rows | [`laws`] | `Laws` |
 #![tactic(auto)]
 
 mod changes;

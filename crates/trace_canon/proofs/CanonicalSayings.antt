@@ -21,17 +21,17 @@ module _ {S : Type 0} (says : S → List ℕ → S → Type 0) (nothing : (s : S
   pub record SaidAll (s : CanonicalSink S) (put : List Message) (t : CanonicalSink S) : Type 0 where
     pub same_out : t.out.ghost_name ≡ s.out.ghost_name
     pub same_progress : t.progress.ghost_name ≡ s.progress.ghost_name
-    pub settings : t.config ≡ s.config
-    pub progress : t.progress.now ≡ progress_after s.config s.progress.now (all_frames MESSAGE_LIMIT put)
-    pub said : says s.out.now (text_from s.config s.progress.now (all_frames MESSAGE_LIMIT put)) t.out.now
+    pub settings : t.config.now ≡ s.config.now
+    pub progress : t.progress.now ≡ progress_after s.config.now s.progress.now (all_frames MESSAGE_LIMIT put)
+    pub said : says s.out.now (text_from s.config.now s.progress.now (all_frames MESSAGE_LIMIT put)) t.out.now
 
   pub said_all : (put : List Message) (s t : CanonicalSink S) → Puts (SaysPutMessage says) s put t → SaidAll s put t
   said_all [] s t is = subst (SaidAll s []) (sym is) (record {
     same_out = refl;
     same_progress = refl;
     settings = refl;
-    progress = sym (progress_none s.config s.progress.now);
-    said = subst (λ x. says s.out.now x s.out.now) (sym (text_none s.config s.progress.now)) (nothing s.out.now);
+    progress = sym (progress_none s.config.now s.progress.now);
+    said = subst (λ x. says s.out.now x s.out.now) (sym (text_none s.config.now s.progress.now)) (nothing s.out.now);
   })
   said_all (message ∷ later) s t (between, one, rest) =
       let after = said_all later between t rest in
@@ -39,17 +39,18 @@ module _ {S : Type 0} (says : S → List ℕ → S → Type 0) (nothing : (s : S
       let more = all_frames MESSAGE_LIMIT later in
       let same = one.2 in
       let at = one.3 in
-      let here : text_from between.config between.progress.now more ≡ text_from s.config (progress_after s.config s.progress.now first) more =
-      ap (λ c. text_from c between.progress.now more) same ∙ ap (λ p. text_from s.config p more) at in
+      let here : text_from between.config.now between.progress.now more
+      ≡ text_from s.config.now (progress_after s.config.now s.progress.now first) more =
+      ap (λ c. text_from c between.progress.now more) same ∙ ap (λ p. text_from s.config.now p more) at in
       record {
         same_out = after.same_out ∙ one.0;
         same_progress = after.same_progress ∙ one.1;
         settings = after.settings ∙ same;
-        progress = after.progress ∙ ap (λ c. progress_after c between.progress.now more) same ∙ ap (λ p. progress_after s.config p more) at
-            ∙ sym (progress_append s.config s.progress.now first more);
-        said = subst (λ x. says s.out.now x t.out.now) (sym (text_append s.config s.progress.now first more))
-            (onward s.out.now between.out.now t.out.now (text_from s.config s.progress.now first)
-            (text_from s.config (progress_after s.config s.progress.now first) more) one.4
+        progress = after.progress ∙ ap (λ c. progress_after c between.progress.now more) same
+            ∙ ap (λ p. progress_after s.config.now p more) at ∙ sym (progress_append s.config.now s.progress.now first more);
+        said = subst (λ x. says s.out.now x t.out.now) (sym (text_append s.config.now s.progress.now first more))
+            (onward s.out.now between.out.now t.out.now (text_from s.config.now s.progress.now first)
+            (text_from s.config.now (progress_after s.config.now s.progress.now first) more) one.4
             (subst (λ x. says between.out.now x t.out.now) here after.said));
       }
 

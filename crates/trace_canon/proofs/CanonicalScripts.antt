@@ -11,14 +11,15 @@ use Rattle.std.proofs.Common.{◌++◌, length, ap, sym, ◌∙◌, append-nil, 
 use Rattle.std.proofs.lemmas.Bool.{leb-true, leb-false}
 use Rattle.can_log.specs.declared.frame.Stamped.{Stamped}
 use Rattle.isotp_receive.specs.declared.TheConstants.{MESSAGE_LIMIT}
-use Rattle.isotp_receive.specs.Verdict.{messages}
+use Rattle.uds_rules.specs.Under.{under}
+use Rattle.trace_log.specs.Messages.{messages_of_lines}
 use Rattle.uds_exchange.specs.Meaning.{meaning, flattened}
 use Rattle.trace_canon.specs.proving.CanonicalScript.{answers_canonical, canonical_script}
 use Rattle.trace_canon.specs.MemoryNeeded.{CompletesHeld}
 use Rattle.trace_log.specs.Needing.{HasTextOf}
 use Rattle.trace_run.specs.Script.{Command, command, said_of_lines, says_no_refusal}
 use Rattle.trace_run.specs.Script.{whole_of_lines}
-use Rattle.trace_run.specs.Ran.{AnswersAndWrites, EndsWith, FailsToWrite, WritesSaid, WritesSaidAndRefusal, WritesFrontOfWhole, WritesSaidEagerly}
+use Rattle.trace_run.specs.AnswersAndWrites.{AnswersAndWrites, EndsWith, FailsToWrite, WritesSaid, WritesSaidAndRefusal, WritesFrontOfWhole, WritesSaidEagerly}
 use Rattle.trace_canon.specs.proving.Measuring.{fits_within}
 use Rattle.trace_canon.proofs.Answered.{answers_accepted, answers_output_limit}
 use Rattle.trace_run.proofs.Promises.{front_of_whole}
@@ -45,13 +46,15 @@ no_longer whole said last text fits more parts is begins =
 some_of : (few many : ℕ) → 0 < few → few ≤ many → 0 < many
 some_of few many some within = omega (arith, some, within)
 
--- the command of the canonical script, which says nothing of a refusal, and keeps held messages
+-- the command of the canonical script, which says nothing of a refusal, and keeps held messages; the rules are those of
+-- the settings
 abbrev canonical_command : Settings → Command Summary
 canonical_command settings =
-    command (canonical_script settings) says_no_refusal (answers_canonical settings) (CompletesHeld MESSAGE_LIMIT)
+    command (canonical_script settings.rules settings) says_no_refusal (answers_canonical settings.rules settings)
+    (CompletesHeld MESSAGE_LIMIT settings.rules)
 
 module _ (settings : Settings) (log : List ℕ) (given : ℕ) (old new : List ℕ) where
-  writes_early : (why : Fault) → WritesSaid (canonical_script settings) MESSAGE_LIMIT settings log given why old new
+  writes_early : (why : Fault) → WritesSaid (canonical_script settings.rules settings) MESSAGE_LIMIT settings log given why old new
       → WritesTextOfRead (announces_within MESSAGE_LIMIT settings) (early_text MESSAGE_LIMIT settings) settings log given why old new
   writes_early why wrote =
       subst (λ text. WritesTextOfRead (announces_within MESSAGE_LIMIT settings) text settings log given why old new) (texts settings)
@@ -64,13 +67,13 @@ module _ (settings : Settings) (log : List ℕ) (given : ℕ) (old new : List �
     read = wrote.read;
     wrote =
         wrote.wrote ∙ ap (λ text. old ++ text)
-        (append-nil (said_of_lines (canonical_script settings) settings wrote.meanings) ∙ early_is settings wrote.meanings);
+        (append-nil (said_of_lines (canonical_script settings.rules settings) settings wrote.meanings) ∙ early_is settings wrote.meanings);
   }
 
-  writes_front : (why : Fault) → WritesFrontOfWhole (canonical_script settings) MESSAGE_LIMIT settings log given why old
+  writes_front : (why : Fault) → WritesFrontOfWhole (canonical_script settings.rules settings) MESSAGE_LIMIT settings log given why old
       new → WritesFront MESSAGE_LIMIT settings log given why old new
   writes_front why wrote =
-      let begins = fitting_log_begins MESSAGE_LIMIT settings (flattened (meaning (messages MESSAGE_LIMIT (trace settings wrote.meanings)))) in
+      let begins = fitting_log_begins MESSAGE_LIMIT settings (flattened (meaning (messages_of_lines MESSAGE_LIMIT settings wrote.meanings))) in
       record {
         meanings = wrote.meanings;
         read = wrote.read;
@@ -84,21 +87,21 @@ module _ (settings : Settings) (log : List ℕ) (given : ℕ) (old new : List �
 
   -- neither what is said of some lines nor all that is has more bytes than their canonical log
   said_within : (meanings : List (Option Stamped))
-      → length (said_of_lines (canonical_script settings) settings meanings)
+      → length (said_of_lines (canonical_script settings.rules settings) settings meanings)
       ≤ length (canonical_log_of_lines MESSAGE_LIMIT settings meanings)
   said_within meanings =
-      let script = canonical_script settings in
-      let begins = fitting_log_begins MESSAGE_LIMIT settings (flattened (meaning (messages MESSAGE_LIMIT (trace settings meanings)))) in
+      let script = canonical_script settings.rules settings in
+      let begins = fitting_log_begins MESSAGE_LIMIT settings (flattened (meaning (messages_of_lines MESSAGE_LIMIT settings meanings))) in
       no_longer (whole_of_lines script MESSAGE_LIMIT settings log meanings) (said_of_lines script settings meanings)
       (script.at_the_end (trace settings meanings) (summary_of MESSAGE_LIMIT settings log meanings))
       (canonical_log_of_lines MESSAGE_LIMIT settings meanings) _ begins.0 refl (whole_is settings log meanings) begins.1
 
   whole_within : (meanings : List (Option Stamped))
-      → length (whole_of_lines (canonical_script settings) MESSAGE_LIMIT settings log meanings)
+      → length (whole_of_lines (canonical_script settings.rules settings) MESSAGE_LIMIT settings log meanings)
       ≤ length (canonical_log_of_lines MESSAGE_LIMIT settings meanings)
   whole_within meanings =
-      let whole = whole_of_lines (canonical_script settings) MESSAGE_LIMIT settings log meanings in
-      let begins = fitting_log_begins MESSAGE_LIMIT settings (flattened (meaning (messages MESSAGE_LIMIT (trace settings meanings)))) in
+      let whole = whole_of_lines (canonical_script settings.rules settings) MESSAGE_LIMIT settings log meanings in
+      let begins = fitting_log_begins MESSAGE_LIMIT settings (flattened (meaning (messages_of_lines MESSAGE_LIMIT settings meanings))) in
       no_longer whole whole [] (canonical_log_of_lines MESSAGE_LIMIT settings meanings) _ begins.0 (sym (append-nil whole))
       (whole_is settings log meanings) begins.1
 
@@ -116,7 +119,7 @@ module _ (settings : Settings) (log : List ℕ) (given : ℕ) (old new : List �
   }
   canonical_some (inr refuses) = absurd (omega (arith, refuses.some))
 
-  pub writes_eagerly_said : WritesSaidEagerly (canonical_script settings) MESSAGE_LIMIT settings log given old new
+  pub writes_eagerly_said : WritesSaidEagerly (canonical_script settings.rules settings) MESSAGE_LIMIT settings log given old new
       → WritesEagerly MESSAGE_LIMIT settings log given old new
   writes_eagerly_said eager =
       record {
@@ -129,9 +132,9 @@ module _ (settings : Settings) (log : List ℕ) (given : ℕ) (old new : List �
   ends_well : (summary : Summary) → EndsWith (canonical_command settings) MESSAGE_LIMIT settings log given (Ok summary) old new
       → Answers MESSAGE_LIMIT settings log given (Ok summary) old new
   ends_well summary (all, meanings, read, answer, wrote) =
-      by (fits_within settings (meaning (messages MESSAGE_LIMIT (trace settings meanings)))) refl
+      by (fits_within settings (meaning (messages_of_lines MESSAGE_LIMIT settings meanings))) refl
     where
-      by : (b : Bool) → fits_within settings (meaning (messages MESSAGE_LIMIT (trace settings meanings))) ≡ b
+      by : (b : Bool) → fits_within settings (meaning (messages_of_lines MESSAGE_LIMIT settings meanings)) ≡ b
           → Answers MESSAGE_LIMIT settings log given (Ok summary) old new
       by false is =
           let same : Ok summary ≡ Err no_answer.OutputLimit =
@@ -145,13 +148,13 @@ module _ (settings : Settings) (log : List ℕ) (given : ℕ) (old new : List �
           subst (λ s. Answers MESSAGE_LIMIT settings log given (Ok s) old new) (sym counted)
           (answers_accepted MESSAGE_LIMIT settings log given meanings old new read fits
           (wrote ∙ ap (λ x. old ++ x) (whole_said settings log meanings ∙ said_whole settings
-          (flattened (meaning (messages MESSAGE_LIMIT (trace settings meanings)))) fits)))
+          (flattened (meaning (messages_of_lines MESSAGE_LIMIT settings meanings))) fits)))
 
   ends_over : EndsWith (canonical_command settings) MESSAGE_LIMIT settings log given (Err no_answer.OutputLimit) old new
       → Answers MESSAGE_LIMIT settings log given (Err OutputLimit) old new
-  ends_over (all, meanings, read, answer, wrote) = by (fits_within settings (meaning (messages MESSAGE_LIMIT (trace settings meanings)))) refl
+  ends_over (all, meanings, read, answer, wrote) = by (fits_within settings (meaning (messages_of_lines MESSAGE_LIMIT settings meanings))) refl
     where
-      by : (b : Bool) → fits_within settings (meaning (messages MESSAGE_LIMIT (trace settings meanings))) ≡ b
+      by : (b : Bool) → fits_within settings (meaning (messages_of_lines MESSAGE_LIMIT settings meanings)) ≡ b
           → Answers MESSAGE_LIMIT settings log given (Err OutputLimit) old new
       by true is =
           let same : Err no_answer.OutputLimit ≡ Ok (summary_of MESSAGE_LIMIT settings log meanings) =
@@ -172,7 +175,7 @@ unwritten_some settings log given result old new wrong said =
 -- what a run of the command answers and writes is the canonical log
 pub canonical_is_the_same : (settings : Settings) (log : List ℕ) (given : ℕ) (result : Result Summary Fault)
     (old new : List ℕ) → AnswersAndWrites (canonical_command settings) MESSAGE_LIMIT settings log given result old new
-    → WritesSaidEagerly (canonical_script settings) MESSAGE_LIMIT settings log given old new
+    → WritesSaidEagerly (canonical_script settings.rules settings) MESSAGE_LIMIT settings log given old new
     → Answers MESSAGE_LIMIT settings log given result old new
 canonical_is_the_same settings log given (Ok summary) old new ends eager = ends_well settings log given old new summary ends
 canonical_is_the_same settings log given (Err OutputLimit) old new ends eager = ends_over settings log given old new ends
@@ -188,7 +191,8 @@ canonical_is_the_same settings log given (Err Write) old new (inr refuses) eager
 canonical_is_the_same settings log given (Err Memory) old new wrote eager = (
   tt,
   (
-    writes_front settings log given old new Memory (front_of_whole (canonical_script settings) MESSAGE_LIMIT settings log given Memory old new wrote),
+    writes_front settings log given old new Memory
+        (front_of_whole (canonical_script settings.rules settings) MESSAGE_LIMIT settings log given Memory old new wrote),
     writes_eagerly_said settings log given old new eager,
   ),
 )
@@ -203,11 +207,11 @@ canonical_again settings log given (Ok summary) old new are answers = λ text wr
     written_is_canonical MESSAGE_LIMIT settings log given old new text summary (record { least = omega arith; most = omega arith }) are answers wrote
 canonical_again settings log given (Err why) old new are answers = tt
 
--- for a recording of messages the canonical log of their meaning was written
+-- for a recording of messages the canonical log of their meaning under the rules was written
 pub recording_again : (settings : Settings) (log : List ℕ) (given : ℕ) (result : Result Summary Fault) (old new : List ℕ)
     → Answers MESSAGE_LIMIT settings log given result old new
     → OnOk result ((M : List Message) → Records MESSAGE_LIMIT settings log M → new ≡ old ++ canonical_log MESSAGE_LIMIT
-    settings (flattened (meaning M)))
+    settings (flattened (meaning (under settings.rules M))))
 recording_again settings log given (Ok summary) old new answers = λ M records.
     written_of_recording MESSAGE_LIMIT settings log given old new summary M answers records
 recording_again settings log given (Err why) old new answers = tt

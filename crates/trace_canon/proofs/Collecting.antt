@@ -1,7 +1,17 @@
 -- What is kept of a log's messages with one more.
-use Rattle.std.proofs.Common.{◌≡◌, ℕ, ◌+◌, ◌<◌, ◌≤◌, true, false, List, [], ◌∷◌, ◌++◌, Some, None, arith, refl, sym, subst}
+use Rattle.std.proofs.Common.{◌≡◌, ℕ, ◌+◌, ◌<◌, ◌≤◌, ◌^◌, true, false, List, [], ◌∷◌, ◌++◌, length, Some, None, arith, ap, refl, sym, subst, ◌∙◌}
 use Rattle.std.proofs.lemmas.Bool.{le-leb, lt-leb}
 use Rattle.direction.specs.Dir.{Message}
+use Rattle.direction.specs.declared.Dir.{Dir}
+use Rattle.isotp_receive.specs.declared.TheConstants.{MESSAGE_LIMIT}
+use Rattle.isotp_receive.specs.EventSeen.{seen_verdict}
+use Rattle.isotp_receive.specs.Trace.{Entry}
+use Rattle.isotp_receive.specs.Verdict.{messages, told_message}
+use Rattle.trace_run.specs.Seen.{IsSeen}
+use Rattle.trace_run.specs.Spoken.{spoken_counts}
+use Rattle.trace_run.specs.declared.machine.Seen.{Seen}
+use Rattle.trace_run.proofs.Promises.{few_messages, spoken_next}
+use Rattle.uds_rules.specs.Rule.{RuleValue}
 use Rattle.uds_exchange.specs.Meaning.{ItemValue, meaning, flattened}
 use Rattle.trace_canon.specs.declared.collector.Collected.{Collected}
 use Rattle.trace_canon.specs.proving.SessionScript.{Collects}
@@ -54,3 +64,17 @@ module _ (settings : Settings) where
     -- where nothing is kept any more, it does not fit
     pub no_longer_fits : Collects settings M None config → fits_within settings (meaning M) ≡ false
     no_longer_fits stood = fits_not settings (meaning M) stood.size stood.measured stood.kept
+
+-- a configuration that stays has the same rules
+pub same_rules : {settings now before : Settings} → now ≡ settings → before ≡ settings → now.rules ≡ before.rules
+same_rules is was = ap (λ (s : Settings). s.rules) (is ∙ sym was)
+
+-- of the messages of a trace with one more frame each rule spoke as often as was counted behind those before
+pub counts_next : (own rules : List RuleValue) (T : List Entry) (e : Entry) (seen : Seen) (old new : List ℕ) → IsSeen rules T e seen → own ≡ rules
+    → old ≡ spoken_counts rules (messages MESSAGE_LIMIT T)
+    → ((M : List Message) (d : Dir) → length M < 2 ^ 62 → old ≡ spoken_counts own M → new ≡ spoken_counts own (M ++ told_message d (seen_verdict seen.event.verdict)))
+    → new ≡ spoken_counts rules (messages MESSAGE_LIMIT (T ++ e ∷ []))
+counts_next own rules T e seen old new is same stood counted =
+    let M = messages MESSAGE_LIMIT T in
+    let behind = counted M seen.dir (few_messages T is.event.few) (stood ∙ ap (λ (l : List RuleValue). spoken_counts l M) (sym same)) in
+    spoken_next own rules T e seen new is behind ∙ ap (λ (l : List RuleValue). spoken_counts l (messages MESSAGE_LIMIT (T ++ e ∷ []))) same

@@ -5,6 +5,7 @@ use Rattle.uds_exchange.specs.Meaning.{ItemValue}
 use Rattle.trace_canon.specs.declared.comparer.Comparison.{Comparison}
 use Rattle.trace_canon.specs.declared.comparer.Comparison.TheVariants.{Different}
 use Rattle.trace_canon.specs.ComparisonText.{comparison_lines, different_members, shown_lines}
+use Rattle.uds_rules.specs.Rule.{RuleValue}
 use Rattle.trace_text.specs.Json.{Value, nothing, member, object_line, value_text}
 use Rattle.trace_text.proofs.Promises.{line_is, value_is}
 
@@ -13,14 +14,15 @@ abbrev different_line : ℕ → List ℕ
 different_line place = codes "different at item " ++ (decimal (place + 1) ++ codes "\n")
 
 -- it is all that is written where the items are not shown
-pub different_is : (shows : Bool) (comparison : Comparison) (place : ℕ) (left right : List ItemValue) → comparison ≡ Different place → shows ≡ false
-    → different_line place ≡ comparison_lines shows comparison left right
-different_is shows comparison place left right is hidden = rw (is, hidden) (sym (append-nil (different_line place)))
+pub different_is : (rules : List RuleValue) (shows : Bool) (comparison : Comparison) (place : ℕ) (left right : List ItemValue)
+    → comparison ≡ Different place → shows ≡ false → different_line place ≡ comparison_lines rules shows comparison left right
+different_is rules shows comparison place left right is hidden = rw (is, hidden) (sym (append-nil (different_line place)))
 
 -- and else they follow
-pub shown_is : (shows : Bool) (comparison : Comparison) (place : ℕ) (left right : List ItemValue) → comparison ≡ Different place → shows ≡ true
-    → different_line place ++ shown_lines place left right ≡ comparison_lines shows comparison left right
-shown_is shows comparison place left right is shown = rw (is, shown) refl
+pub shown_is : (rules : List RuleValue) (shows : Bool) (comparison : Comparison) (place : ℕ) (left right : List ItemValue)
+    → comparison ≡ Different place → shows ≡ true
+    → different_line place ++ shown_lines rules place left right ≡ comparison_lines rules shows comparison left right
+shown_is rules shows comparison place left right is shown = rw (is, shown) refl
 
 -- what stands before the values of both sides in the object of two logs that differ
 abbrev pub front_of_object : ℕ → List ℕ

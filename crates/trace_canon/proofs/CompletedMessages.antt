@@ -12,7 +12,9 @@ use Rattle.uds_exchange.specs.Judging.{sent}
 use Rattle.uds_exchange.specs.Meaning.{ItemValue, meaning}
 use Rattle.uds_exchange.specs.declared.judge.Judged.{Judged}
 use Rattle.trace_log.proofs.Promises.{messages_more, trace_next, trace_same_blank, trace_same_foreign}
-use Rattle.trace_log.specs.Messages.{HasMeaning}
+use Rattle.uds_rules.specs.Rule.{RuleValue}
+use Rattle.uds_rules.specs.Under.{under}
+use Rattle.trace_log.specs.Messages.{HasMeaning, messages_under}
 use Rattle.trace_log.specs.Settings.{Settings, direction_of}
 use Rattle.trace_log.specs.Trace.{trace, trace_from}
 use Rattle.trace_log.specs.proving.Receiving.{entry_in}
@@ -21,18 +23,20 @@ use Rattle.trace_canon.specs.FirstFrames.{CompletesMessage}
 use Rattle.trace_canon.specs.MemoryNeeded.{CompletesSuch, NeedsMemoryToCollect}
 
 -- a frame that completes a message
-pub completes_message : (T : List Entry) (e : Entry) (judged : Judged) → CompletesJudged T e judged
-    → CompletesMessage MESSAGE_LIMIT T e
-completes_message T e judged completes = (judged.bytes.now, completes.did)
+pub completes_message : (rules : List RuleValue) (T : List Entry) (e : Entry) (judged : Judged)
+    → CompletesJudged rules T e judged → CompletesMessage MESSAGE_LIMIT T e
+completes_message rules T e judged completes = (completes.whole, completes.did)
 
--- one that completes a message which is such behind those before, as one that is held, or kept
-pub completes_such : (IsSuch : List Message → Message → Type 0) (T : List Entry) (e : Entry) (judged : Judged)
-    → CompletesJudged T e judged → IsSuch (messages MESSAGE_LIMIT T) (sent judged)
-    → CompletesSuch IsSuch MESSAGE_LIMIT T e
-unfolding completes_message
-completes_such IsSuch T e judged completes such = (
-  completes_message T e judged completes,
-  subst (λ d. IsSuch (messages MESSAGE_LIMIT T) (d, judged.bytes.now)) (sym completes.dir) such,
+-- one that completes a message of which rules leave one that is such behind those before, as one that is held, or kept
+pub completes_such : (IsSuch : List Message → Message → Type 0) (rules : List RuleValue) (T : List Entry) (e : Entry)
+    (judged : Judged) → CompletesJudged rules T e judged → IsSuch (messages_under rules MESSAGE_LIMIT T) (sent judged)
+    → CompletesSuch IsSuch MESSAGE_LIMIT rules T e
+completes_such IsSuch rules T e judged completes such = (
+  completes.whole,
+  judged.bytes.now,
+  completes.did,
+  completes.made,
+  subst (λ d. IsSuch (messages_under rules MESSAGE_LIMIT T) (d, judged.bytes.now)) (sym completes.dir) such,
 )
 
 module _ (limit : ℕ) (settings : Settings) where
@@ -103,4 +107,4 @@ module _ (limit : ℕ) (settings : Settings) where
     unfolding trace_from
     collects_where_items items has some =
         completed_behind [] (log_lines log) [] has.meanings refl tt has.means refl
-        (λ none. some (has.found ∙ ap meaning none))
+        (λ none. some (has.found ∙ ap (λ M. meaning (under settings.rules M)) none))

@@ -11,24 +11,27 @@ use Rattle.trace_log.specs.declared.fault.CompareFault.TheVariants.{Left, Right}
 use Rattle.trace_canon.specs.Compared.{Compares, fault_in}
 use Rattle.trace_io.specs.Counted.{BytesInMemory}
 use Rattle.trace_log.specs.declared.fault.Fault.{Fault}
-use Rattle.trace_log.specs.declared.fault.Fault.TheVariants.{Read, Write, Memory}
+use Rattle.trace_log.specs.declared.fault.Fault.TheVariants.{BadLine, Oversize, LogLimit, OutputLimit, Read, Write, Memory}
 use Rattle.trace_log.specs.declared.summary.Summary.{Summary}
 use Rattle.trace_log.specs.Answers.{Answers, TellsOutcome}
 use Rattle.trace_canon.specs.Sessions.{GivesMeaning}
 use Rattle.trace_log.specs.Failing.{FailedIf}
 use Rattle.trace_canon.specs.InMemory.{IsOfMemory, HasBytes, IsRefused, IsUnread, IsCanonicalLogWith, IsSaidWith}
-use Rattle.trace_canon.specs.InMemory.{NeedsMemoryForCanonicalLog, NeedsMemoryForMessageLines, MeansInMemory}
+use Rattle.trace_canon.specs.InMemory.{NeedsMemoryForCanonicalLog, NeedsMemoryForExplanation, NeedsMemoryForMessageLines}
+use Rattle.trace_canon.specs.InMemory.{MeansInMemory, IsExplanationWith}
 use Rattle.trace_canon.specs.InMemory.{ComparesWithCounts, counted_comparison, fault_in_memory}
 use Rattle.trace_log.specs.CanonicalLog.{canonical_log_of_lines}
 use Rattle.trace_log.specs.Needing.{HasTextOf}
+use Rattle.trace_log.specs.Refusal.{CountsAsBad}
 use Rattle.trace_log.specs.Outcome.{Accepted, IsOutcome}
 use Rattle.trace_canon.specs.MemoryNeeded.{NeedsMemoryToCollect, NeedsMemoryToOrder}
 use Rattle.trace_canon.specs.MessagesScript.{messages_script}
 use Rattle.trace_canon.specs.WrittenAtEnd.{LeavesAtEnd, TextOfLog, WritesAtEnd}
-use Rattle.trace_log.specs.Settings.{Settings}
+use Rattle.trace_log.specs.Settings.{Settings, without_rules}
 use Rattle.trace_run.specs.Script.{Command, Needing, RefusalText, answers_counts, command, needs_none, says_no_refusal}
 use Rattle.trace_run.specs.Script.{Script, said_of_lines, whole_of_lines}
-use Rattle.trace_run.specs.Ran.{AnswersAndWrites, CantBeRead, FailsToWrite}
+use Rattle.trace_run.specs.Stopping.{CantBeRead}
+use Rattle.trace_run.specs.AnswersAndWrites.{AnswersAndWrites, FailsToWrite}
 use Rattle.trace_run.proofs.Promises.{unread_for}
 use Rattle.trace_text.specs.declared.notation.Notation.{Notation}
 use Rattle.trace_log.proofs.Promises.{all_begin}
@@ -137,7 +140,8 @@ module _ (of_frame : List Entry → Entry → List ℕ) (at_the_end : List Entry
       )
   said_in_memory log text before after old taken given (Err fault) ran refused unwritten is =
       known (CantBeRead settings log) (NeedsMemory limit settings log) fault tt
-      (unread_for (lenient_command of_frame at_the_end refusal needs) refl (λ T summary none. absurd (cc none)) limit settings log given fault old taken is)
+      (unread_for (lenient_command of_frame at_the_end refusal needs) refl
+      (λ T summary none. absurd (cc none)) limit settings log given fault old taken is)
       (λ read. reads_well ran.read (ap Err read)) (λ why. refused (ap Err why))
       (λ why. unwritten
       (subst (λ (f : Fault). AnswersAndWrites (lenient_command of_frame at_the_end refusal needs) limit settings log given (Err f) old taken) why is))
@@ -145,10 +149,41 @@ module _ (of_frame : List Entry → Entry → List ℕ) (at_the_end : List Entry
 -- the lines of messages
 pub message_lines_in_memory : (notation : Notation) (limit : ℕ) (settings : Settings) (log : List ℕ) (given : ℕ)
     (old new : List ℕ)
-    → FailsToWrite (command (messages_script notation limit) says_no_refusal answers_counts needs_none)
+    → FailsToWrite (command (messages_script notation limit settings.rules) says_no_refusal answers_counts needs_none)
     limit settings log given old new → NeedsMemoryForMessageLines notation limit settings log
 message_lines_in_memory notation limit settings log given old new fails =
-    inr (said_some ((messages_script notation limit).of_frame) limit settings log given old new fails)
+    inr (said_some ((messages_script notation limit settings.rules).of_frame) limit settings log given old new fails)
+
+-- whether a refused place of a log counts, and why a log can't be read, is no matter of rules
+bad_under : (settings : Settings) (log : List ℕ) (line column : ℕ) → CountsAsBad (without_rules settings) log line column
+    → CountsAsBad settings log line column
+bad_under settings log line column bad = record { place = bad.place; counts = bad.counts }
+
+bad_without : (settings : Settings) (log : List ℕ) (line column : ℕ) → CountsAsBad settings log line column
+    → CountsAsBad (without_rules settings) log line column
+bad_without settings log line column bad = record { place = bad.place; counts = bad.counts }
+
+unread_under : (settings : Settings) (log : List ℕ) (fault : Fault) → CantBeRead (without_rules settings) log fault
+    → CantBeRead settings log fault
+unread_under settings log (BadLine line column) is = bad_under settings log line column is
+unread_under settings log (Oversize line announced) is = is
+unread_under settings log LogLimit (none, long) =
+    (λ line column bad. none line column (bad_without settings log line column bad), long)
+unread_under settings log OutputLimit is = is
+unread_under settings log Read is = is
+unread_under settings log Write is = is
+unread_under settings log Memory is = is
+
+-- what explains a log, which has no rules
+pub explanation_in_memory : (notation : Notation) (limit : ℕ) (settings : Settings) (log text : List ℕ)
+    (answer : Result Summary Fault)
+    → MatchResult answer (λ summary. IsExplanationWith notation limit settings log text summary)
+    (λ fault. IsUnread NeedsMemoryForExplanation limit (without_rules settings) log (fault_in_memory fault))
+    → MatchResult answer (λ summary. IsExplanationWith notation limit settings log text summary)
+    (λ fault. IsUnread NeedsMemoryForExplanation limit settings log (fault_in_memory fault))
+explanation_in_memory notation limit settings log text (Ok summary) is = is
+explanation_in_memory notation limit settings log text (Err fault) (is, of_memory) =
+    (unread_under settings log (fault_in_memory fault) is, of_memory)
 
 -- ---- a meaning, and two of them
 

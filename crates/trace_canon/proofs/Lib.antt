@@ -24,5 +24,6 @@ pub mod GatheredTexts
 pub mod InMemories
 pub mod Hearings
 pub mod CreditLines
+pub mod SameLists
 -- what the crates above may cite
 pub mod Promises

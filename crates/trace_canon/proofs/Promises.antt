@@ -18,7 +18,7 @@ use Rattle.trace_log.specs.Settings.{Settings}
 use Rattle.trace_log.specs.declared.fault.Fault.{Fault}
 use Rattle.trace_log.specs.declared.fault.Fault.TheVariants.{Read, Memory}
 use Rattle.trace_log.specs.declared.summary.Summary.{Summary}
-use Rattle.trace_run.specs.Ran.{AnswersAndWrites, FailsToWrite}
+use Rattle.trace_run.specs.AnswersAndWrites.{AnswersAndWrites, FailsToWrite}
 use Rattle.trace_run.specs.Script.{Needing, RefusalText}
 use Rattle.trace_canon.specs.InMemory.{IsSaidWith, IsUnread, fault_in_memory}
 use Rattle.trace_canon.specs.MemoryNeeded.{NeedsMemoryToCollect}

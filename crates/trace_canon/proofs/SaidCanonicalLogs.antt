@@ -3,7 +3,7 @@
 use Rattle.direction.specs.Dir.{Message}
 use Rattle.trace_log.specs.CanonicalLog.{canonical_log, log_of_frames, canonical_log_of_lines, early_text, fitting}
 use Rattle.trace_log.specs.Settings.{Settings}
-use Rattle.trace_log.proofs.Promises.{messages_more}
+use Rattle.trace_log.proofs.Promises.{messages_under_more}
 use Rattle.trace_log.proofs.Promises.{all_frames-append, fitting_frames}
 use Rattle.std.proofs.Common.{arith, ◌≡◌, Bool, true, false, refl, Option, ◌≤◌, ◌<◌, ℕ, List, [], ◌∷◌}
 use Rattle.std.proofs.Common.{◌++◌, length, drop, ap, sym, ◌∙◌, append-nil, append_assoc}
@@ -12,7 +12,10 @@ use Rattle.std.proofs.lemmas.Bool.{le-leb, lt-leb}
 use Rattle.can_log.specs.declared.frame.Stamped.{Stamped}
 use Rattle.isotp_receive.specs.declared.TheConstants.{MESSAGE_LIMIT}
 use Rattle.isotp_receive.specs.Trace.{Entry}
-use Rattle.isotp_receive.specs.Verdict.{messages, told_message, verdict}
+use Rattle.isotp_receive.specs.Verdict.{told_message, verdict}
+use Rattle.uds_rules.specs.Rule.{RuleValue}
+use Rattle.uds_rules.specs.Under.{under}
+use Rattle.trace_log.specs.Messages.{messages_of_lines, messages_under}
 use Rattle.isotp_segment.specs.Timed.{all_frames}
 use Rattle.uds_exchange.specs.Order.{early, held}
 use Rattle.uds_exchange.specs.Orderer.{JudgedOrdererValue}
@@ -31,18 +34,21 @@ use Rattle.trace_log.specs.Trace.{trace}
 -- the lines of the messages of a trace that are early, as far as there is room
 abbrev text_of_early : Settings → List Entry → List ℕ
 text_of_early settings T =
-    text_from settings (start_of settings.max_bytes) (all_frames MESSAGE_LIMIT (early (messages MESSAGE_LIMIT T)))
+    text_from settings (start_of settings.max_bytes)
+    (all_frames MESSAGE_LIMIT (early (messages_under settings.rules MESSAGE_LIMIT T)))
 
 module _ (settings : Settings) where
   -- the lines due with one more frame stand behind those of the early messages so far
   one_more : (T : List Entry) (e : Entry)
-      → text_of_early settings T ++ lines_due settings (messages MESSAGE_LIMIT T) (messages MESSAGE_LIMIT (T ++ e ∷ []))
+      → text_of_early settings T
+      ++ lines_due settings (messages_under settings.rules MESSAGE_LIMIT T) (messages_under settings.rules MESSAGE_LIMIT (T ++ e ∷ []))
       ≡ text_of_early settings (T ++ e ∷ [])
   one_more T e =
-      let M = messages MESSAGE_LIMIT T in
-      let grows = early_grows M (told_message e.dir (verdict MESSAGE_LIMIT T e).verdict) in
-      let longer : early (messages MESSAGE_LIMIT (T ++ e ∷ [])) ≡ early M ++ grows.0 = ap early (messages_more MESSAGE_LIMIT T e) ∙ grows.1 in
-      let left : drop (length (early M)) (early (messages MESSAGE_LIMIT (T ++ e ∷ []))) ≡ grows.0 =
+      let M = messages_under settings.rules MESSAGE_LIMIT T in
+      let now = messages_under settings.rules MESSAGE_LIMIT (T ++ e ∷ []) in
+      let grows = early_grows M (under settings.rules (told_message e.dir (verdict MESSAGE_LIMIT T e).verdict)) in
+      let longer : early now ≡ early M ++ grows.0 = ap early (messages_under_more settings.rules MESSAGE_LIMIT T e) ∙ grows.1 in
+      let left : drop (length (early M)) (early now) ≡ grows.0 =
       ap (drop (length (early M))) longer ∙ drop-append_seam (early M) grows.0 in
       let begin = start_of settings.max_bytes in
       ap (λ due. text_of_early settings T ++ text_from settings (progress_behind settings (early M)) (all_frames MESSAGE_LIMIT due)) left
@@ -52,20 +58,22 @@ module _ (settings : Settings) where
 
   -- and so those of all frames that follow
   from_there : (past xs : List Entry)
-      → text_of_early settings past ++ said_after ((canonical_script settings).of_frame) past xs
+      → text_of_early settings past ++ said_after ((canonical_script settings.rules settings).of_frame) past xs
       ≡ text_of_early settings (past ++ xs)
   from_there past [] = append-nil (text_of_early settings past) ∙ ap (text_of_early settings) (sym (append-nil past))
   from_there past (e ∷ rest) =
-      let due = lines_due settings (messages MESSAGE_LIMIT past) (messages MESSAGE_LIMIT (past ++ e ∷ [])) in
-      let later = said_after ((canonical_script settings).of_frame) (past ++ e ∷ []) rest in
+      let due =
+      lines_due settings (messages_under settings.rules MESSAGE_LIMIT past)
+      (messages_under settings.rules MESSAGE_LIMIT (past ++ e ∷ [])) in
+      let later = said_after ((canonical_script settings.rules settings).of_frame) (past ++ e ∷ []) rest in
       sym (append_assoc (text_of_early settings past) due later) ∙ ap (λ x. x ++ later) (one_more past e) ∙ from_there (past ++ e ∷ []) rest
       ∙ ap (text_of_early settings) (append_assoc past (e ∷ []) rest)
 
 -- what the script says of a trace are the lines of its early messages
 canonical_says_early : (settings : Settings) (T : List Entry)
-    → said_of_frames ((canonical_script settings).of_frame) T ≡ text_of_early settings T
+    → said_of_frames ((canonical_script settings.rules settings).of_frame) T ≡ text_of_early settings T
 canonical_says_early settings T =
-    ap (λ x. x ++ said_of_frames ((canonical_script settings).of_frame) T)
+    ap (λ x. x ++ said_of_frames ((canonical_script settings.rules settings).of_frame) T)
     (sym (text_none settings (start_of settings.max_bytes))) ∙ from_there settings [] T
 
 -- where the text stands at the end
@@ -109,38 +117,43 @@ said_whole settings put fits = by ((progress_behind settings put).is_full) refl
     by true over = let long = long_when settings put over in absurd (omega (arith, long, fits))
     by false within = (whole_when settings put within).1
 
-module _ (settings config : Settings) (T : List Entry) (orderer : JudgedOrdererValue) (progress after : ProgressValue)
-    (stands : StandsCanonical settings T orderer config progress)
-    (at : after ≡ progress_after config progress (all_frames MESSAGE_LIMIT (held (messages MESSAGE_LIMIT T)))) where
+module _ (rules : List RuleValue) (settings config : Settings) (T : List Entry) (orderer : JudgedOrdererValue)
+    (progress after : ProgressValue) (stands : StandsCanonical rules settings T orderer config progress)
+    (at : after ≡ progress_after config progress (all_frames MESSAGE_LIMIT (held (messages_under rules MESSAGE_LIMIT T)))) where
+  -- what the messages of the trace mean under the rules, in order
+  abbrev all : List Message
+  all = flattened (meaning (messages_under rules MESSAGE_LIMIT T))
+
   -- whether a line did not fit, at the end
-  full_at_end : after.is_full ≡ (progress_behind settings (flattened (meaning (messages MESSAGE_LIMIT T)))).is_full
+  full_at_end : after.is_full ≡ (progress_behind settings all).is_full
   full_at_end =
-      let frames = all_frames MESSAGE_LIMIT (held (messages MESSAGE_LIMIT T)) in
+      let frames = all_frames MESSAGE_LIMIT (held (messages_under rules MESSAGE_LIMIT T)) in
       ap (λ (p : ProgressValue). p.is_full)
       (at ∙ ap (λ s. progress_after s progress frames) stands.same ∙ ap (λ p. progress_after settings p frames) stands.at
-      ∙ progress_at_end settings (messages MESSAGE_LIMIT T))
+      ∙ progress_at_end settings (messages_under rules MESSAGE_LIMIT T))
 
   -- one did not: the canonical log is too long
-  pub over_at_end : after.is_full ≡ true → fits_within settings (meaning (messages MESSAGE_LIMIT T)) ≡ false
-  over_at_end full = lt-leb _ settings.max_bytes (long_when settings (flattened (meaning (messages MESSAGE_LIMIT T))) (sym full_at_end ∙ full))
+  pub over_at_end : after.is_full ≡ true → fits_within settings (meaning (messages_under rules MESSAGE_LIMIT T)) ≡ false
+  over_at_end full = lt-leb _ settings.max_bytes (long_when settings all (sym full_at_end ∙ full))
 
   -- all did: it is not
-  pub within_at_end : after.is_full ≡ false → fits_within settings (meaning (messages MESSAGE_LIMIT T)) ≡ true
-  within_at_end room = le-leb _ settings.max_bytes (whole_when settings (flattened (meaning (messages MESSAGE_LIMIT T))) (sym full_at_end ∙ room)).0
+  pub within_at_end : after.is_full ≡ false → fits_within settings (meaning (messages_under rules MESSAGE_LIMIT T)) ≡ true
+  within_at_end room = le-leb _ settings.max_bytes (whole_when settings all (sym full_at_end ∙ room)).0
 
 module _ (settings : Settings) where
   -- what is said of lines, while the log comes and in all
   pub early_is : (meanings : List (Option Stamped))
-      → said_of_lines (canonical_script settings) settings meanings ≡ early_text MESSAGE_LIMIT settings meanings
+      → said_of_lines (canonical_script settings.rules settings) settings meanings ≡ early_text MESSAGE_LIMIT settings meanings
   early_is meanings =
       canonical_says_early settings (trace settings meanings)
-      ∙ said_fits settings (early (messages MESSAGE_LIMIT (trace settings meanings)))
+      ∙ said_fits settings (early (messages_of_lines MESSAGE_LIMIT settings meanings))
 
-  pub whole_said : (log : List ℕ) (meanings : List (Option Stamped)) → whole_of_lines (canonical_script settings) MESSAGE_LIMIT settings log meanings
+  pub whole_said : (log : List ℕ) (meanings : List (Option Stamped))
+      → whole_of_lines (canonical_script settings.rules settings) MESSAGE_LIMIT settings log meanings
       ≡ text_from settings (start_of settings.max_bytes)
-      (all_frames MESSAGE_LIMIT (flattened (meaning (messages MESSAGE_LIMIT (trace settings meanings)))))
+      (all_frames MESSAGE_LIMIT (flattened (meaning (messages_of_lines MESSAGE_LIMIT settings meanings))))
   whole_said log meanings =
-      let M = messages MESSAGE_LIMIT (trace settings meanings) in
+      let M = messages_of_lines MESSAGE_LIMIT settings meanings in
       let begin = start_of settings.max_bytes in
       ap (λ x. x ++ text_from settings (progress_behind settings (early M)) (all_frames MESSAGE_LIMIT (held M)))
       (canonical_says_early settings (trace settings meanings))
@@ -149,9 +162,10 @@ module _ (settings : Settings) where
       ∙ ap (λ x. text_from settings begin (all_frames MESSAGE_LIMIT x)) (early_then_held M)
 
   pub whole_is : (log : List ℕ) (meanings : List (Option Stamped))
-      → whole_of_lines (canonical_script settings) MESSAGE_LIMIT settings log meanings
+      → whole_of_lines (canonical_script settings.rules settings) MESSAGE_LIMIT settings log meanings
       ≡ fitting settings (canonical_log_of_lines MESSAGE_LIMIT settings meanings)
-  whole_is log meanings = whole_said log meanings ∙ said_fits settings (flattened (meaning (messages MESSAGE_LIMIT (trace settings meanings))))
+  whole_is log meanings =
+      whole_said log meanings ∙ said_fits settings (flattened (meaning (messages_of_lines MESSAGE_LIMIT settings meanings)))
 
-  pub texts : said_of_lines (canonical_script settings) settings ≡ early_text MESSAGE_LIMIT settings
+  pub texts : said_of_lines (canonical_script settings.rules settings) settings ≡ early_text MESSAGE_LIMIT settings
   texts = λ i meanings. early_is meanings i

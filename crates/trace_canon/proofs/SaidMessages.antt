@@ -1,11 +1,14 @@
 -- The line of a placed message, said of the frame that completes it.
-use Rattle.std.proofs.Common.{◌≡◌, ℕ, None, List, [], ◌++◌, refl, ap, sym, ◌∙◌, append-nil, append_assoc, codes}
+use Rattle.std.proofs.Common.{◌≡◌, ℕ, Option, Some, None, List, [], ◌++◌, refl, ap, sym, ◌∙◌, append-nil, append_assoc, codes}
 use Rattle.std.specs.Fmt.{decimal}
 use Rattle.direction.specs.Dir.{Message}
 use Rattle.direction.specs.declared.Dir.{Dir}
 use Rattle.isotp_receive.specs.declared.TheConstants.{MESSAGE_LIMIT}
 use Rattle.isotp_receive.specs.Trace.{Entry}
-use Rattle.isotp_receive.specs.Verdict.{VerdictValue, message, began, stored, flowed, dropped, messages, told_message, verdict}
+use Rattle.isotp_receive.specs.Verdict.{VerdictValue, message, began, stored, flowed, dropped, told_message, verdict}
+use Rattle.trace_log.specs.Messages.{messages_under}
+use Rattle.uds_rules.specs.Rule.{RuleValue, made_of}
+use Rattle.uds_rules.specs.Under.{sent_as, under}
 use Rattle.uds_exchange.specs.Judging.{sent}
 use Rattle.uds_exchange.specs.declared.judge.Judged.{Judged}
 use Rattle.uds_exchange.specs.declared.step.Step.{Step}
@@ -13,10 +16,11 @@ use Rattle.trace_run.specs.Seen.{IsSeen}
 use Rattle.trace_run.specs.declared.machine.Seen.{Seen}
 use Rattle.trace_run.proofs.Promises.{CompletesJudged, tells_no_message}
 use Rattle.trace_text.specs.Json.{object_line}
-use Rattle.trace_text.specs.Words.{bytes_text, direction_text, role_text, stamp_text}
+use Rattle.trace_text.specs.RuledText.{ruled_text}
+use Rattle.trace_text.specs.Words.{direction_text, role_text, stamp_text}
 use Rattle.trace_text.specs.declared.notation.Notation.{Notation}
 use Rattle.trace_text.proofs.Promises.{line_is}
-use Rattle.trace_canon.specs.MessagesScript.{PlacedMessage, judged_at, placed_members, placed_text, placed_behind, delivered_line}
+use Rattle.trace_canon.specs.MessagesScript.{PlacedMessage, judged_at, placed_members, placed_text, placed_behind, left_line, delivered_line}
 use Rattle.trace_canon.specs.FirstFrames.{place_of, first_frame}
 use Rattle.trace_canon.specs.declared.message_parts.FrameExtent.{FrameExtent}
 use Rattle.trace_canon.specs.declared.reception_starts.FramePlace.{FramePlace}
@@ -30,33 +34,43 @@ extent_from first last = record { first = first; last = last }
 abbrev pub placed_at : ℕ → Step → Message → FrameExtent → PlacedMessage
 placed_at number step sent extent = record { number = number; step = step; sent = sent; extent = extent }
 
--- what is said of a message that a frame completed, from the place of its first frame to this one, is its line
-pub judged_said : (T : List Entry) (e : Entry) (seen : Seen) (judged : Judged) → IsSeen T e seen → CompletesJudged T e judged
-    → (notation own_notation : Notation) (first : FramePlace) → own_notation ≡ notation → first ≡ place_of (first_frame T e)
-    → placed_text own_notation (judged_at judged (extent_from first (here_at seen.line seen.micros)))
-    ≡ delivered_line notation MESSAGE_LIMIT T e (verdict MESSAGE_LIMIT T e).verdict
-judged_said T e seen judged is completes notation own_notation first same first_is =
+-- what is said of a message that rules left of the one that a frame completed, from the place of its first frame to
+-- this one, is its line
+pub judged_said : (rules : List RuleValue) (T : List Entry) (e : Entry) (seen : Seen) (judged : Judged) → IsSeen rules T e seen
+    → CompletesJudged rules T e judged → (notation own_notation : Notation) (own_rules : List RuleValue) (first : FramePlace)
+    → own_notation ≡ notation → own_rules ≡ rules → first ≡ place_of (first_frame T e)
+    → placed_text own_notation own_rules (judged_at judged (extent_from first (here_at seen.line seen.micros)))
+    ≡ delivered_line notation MESSAGE_LIMIT rules T e (verdict MESSAGE_LIMIT T e).verdict
+judged_said rules T e seen judged is completes notation own_notation own_rules first same ruled first_is =
     let at = is.event in
-    let M = messages MESSAGE_LIMIT T in
-    let words : placed_text own_notation (judged_at judged (extent_from first (here_at seen.line seen.micros)))
-    ≡ placed_text notation (placed_behind M (sent judged) (first_frame T e) e) =
-    (λ i. placed_text (same i) (placed_at (completes.item i) (completes.step i) (sent judged)
+    let M = messages_under rules MESSAGE_LIMIT T in
+    let words : placed_text own_notation own_rules (judged_at judged (extent_from first (here_at seen.line seen.micros)))
+    ≡ placed_text notation rules (placed_behind M (sent judged) (first_frame T e) e) =
+    (λ i. placed_text (same i) (ruled i) (placed_at (completes.item i) (completes.step i) (sent judged)
     (extent_from (first_is i) (here_at (sym at.line i) (sym at.micros i))))) in
-    words ∙ ap (λ d. placed_text notation (placed_behind M (d, judged.bytes.now) (first_frame T e) e)) (sym completes.dir)
-    ∙ ap (delivered_line notation MESSAGE_LIMIT T e) (sym completes.did)
+    words ∙ ap (λ d. placed_text notation rules (placed_behind M (d, judged.bytes.now) (first_frame T e) e)) (sym completes.dir)
+    ∙ ap (left_line notation MESSAGE_LIMIT rules T e) (sym completes.made)
+    ∙ ap (delivered_line notation MESSAGE_LIMIT rules T e) (sym completes.did)
 
--- of a frame that completed no message nothing is said
-silent_line : (notation : Notation) (T : List Entry) (e : Entry) (d : Dir) (did : VerdictValue) → told_message d did ≡ []
-    → delivered_line notation MESSAGE_LIMIT T e did ≡ []
-silent_line notation T e d (message bytes) none = cc none
-silent_line notation T e d began none = refl
-silent_line notation T e d stored none = refl
-silent_line notation T e d flowed none = refl
-silent_line notation T e d (dropped reason) none = refl
+-- of a frame of which rules leave no message nothing is said
+no_line : (notation : Notation) (rules : List RuleValue) (T : List Entry) (e : Entry) (d : Dir) (made : Option (List ℕ))
+    → sent_as d made ++ [] ≡ [] → left_line notation MESSAGE_LIMIT rules T e made ≡ []
+no_line notation rules T e d None none = refl
+no_line notation rules T e d (Some bytes) none = cc none
 
-pub nothing_said : (notation : Notation) (T : List Entry) (e : Entry) (seen : Seen) → IsSeen T e seen → seen.message ≡ None
-    → delivered_line notation MESSAGE_LIMIT T e (verdict MESSAGE_LIMIT T e).verdict ≡ []
-nothing_said notation T e seen is none = silent_line notation T e e.dir (verdict MESSAGE_LIMIT T e).verdict (tells_no_message T e seen is none)
+silent_line : (notation : Notation) (rules : List RuleValue) (T : List Entry) (e : Entry) (d : Dir) (did : VerdictValue)
+    → under rules (told_message d did) ≡ [] → delivered_line notation MESSAGE_LIMIT rules T e did ≡ []
+silent_line notation rules T e d (message bytes) none = no_line notation rules T e d (made_of rules bytes) none
+silent_line notation rules T e d began none = refl
+silent_line notation rules T e d stored none = refl
+silent_line notation rules T e d flowed none = refl
+silent_line notation rules T e d (dropped reason) none = refl
+
+pub nothing_said : (notation : Notation) (rules : List RuleValue) (T : List Entry) (e : Entry) (seen : Seen)
+    → IsSeen rules T e seen → seen.message ≡ None
+    → delivered_line notation MESSAGE_LIMIT rules T e (verdict MESSAGE_LIMIT T e).verdict ≡ []
+nothing_said notation rules T e seen is none =
+    silent_line notation rules T e e.dir (verdict MESSAGE_LIMIT T e).verdict (tells_no_message rules T e seen is none)
 
 -- the parts of the object of a message
 abbrev object_parts_of : ℕ → List ℕ → List ℕ → List ℕ → FrameExtent → List ℕ
@@ -72,12 +86,12 @@ in_order : (a b c d e f g h i j k l m n o p q : List ℕ)
     ≡ a ++ (b ++ (c ++ (d ++ (e ++ (f ++ (g ++ (h ++ (i ++ (j ++ (k ++ (l ++ (m ++ (n ++ (o ++ (p ++ (q ++ []))))))))))))))))
 in_order a b c d e f g h i j k l m n o p q = simp (append_assoc, append-nil)
 
-pub object_parts : (number : ℕ) (step : Step) (sent : Message) (extent : FrameExtent)
-    → object_parts_of number (role_text step) (direction_text sent.0) (bytes_text sent.1) extent
-    ≡ object_line (placed_members (placed_at number step sent extent))
-object_parts number step sent extent =
+pub object_parts : (rules : List RuleValue) (number : ℕ) (step : Step) (sent : Message) (extent : FrameExtent)
+    → object_parts_of number (role_text step) (direction_text sent.0) (ruled_text rules sent.1) extent
+    ≡ object_line (placed_members rules (placed_at number step sent extent))
+object_parts rules number step sent extent =
     in_order (codes "{\"item\":") (decimal number) (codes ",\"role\":\"") (role_text step) (codes "\",\"direction\":\"") (direction_text sent.0)
     (codes "\",\"first_line\":") (decimal extent.first.line) (codes ",\"last_line\":") (decimal extent.last.line)
     (codes ",\"start\":\"") (stamp_text extent.first.micros) (codes "\",\"end\":\"") (stamp_text extent.last.micros)
-    (codes "\",\"message\":\"") (bytes_text sent.1) (codes "\"}\n")
-    ∙ sym (line_is (placed_members (placed_at number step sent extent)))
+    (codes "\",\"message\":\"") (ruled_text rules sent.1) (codes "\"}\n")
+    ∙ sym (line_is (placed_members rules (placed_at number step sent extent)))

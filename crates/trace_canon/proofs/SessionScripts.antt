@@ -12,7 +12,7 @@ use Rattle.trace_canon.specs.FirstFrames.{CompletesMessage}
 use Rattle.trace_canon.specs.declared.collector.Session.{Session}
 use Rattle.trace_log.specs.Settings.{Settings}
 use Rattle.trace_log.specs.Summing.{summary_of}
-use Rattle.trace_run.specs.Ran.{AnswersAndWrites}
+use Rattle.trace_run.specs.AnswersAndWrites.{AnswersAndWrites}
 use Rattle.trace_run.specs.Script.{command, says_no_refusal}
 use Rattle.trace_run.proofs.Promises.{SaysNothing}
 use Rattle.uds_exchange.specs.Meaning.{ItemValue}
@@ -25,13 +25,16 @@ silent_says_nothing = record { of_frame = λ T e. refl; at_the_end = λ T summar
 -- is none
 pub session_is_the_same : (settings : Settings) (log : List ℕ) (given : ℕ) (result : Result Session Fault)
     (old new : List ℕ)
-    → AnswersAndWrites (command silent_script says_no_refusal (answers_session settings) (CompletesMessage MESSAGE_LIMIT))
+    → AnswersAndWrites (command silent_script says_no_refusal (answers_session settings.rules settings) (CompletesMessage MESSAGE_LIMIT))
     MESSAGE_LIMIT settings log given result old new → GivesSession MESSAGE_LIMIT settings log result
 session_is_the_same settings log given (Ok session) old new (all, meanings, read, answer, wrote) = record {
-  accepted = record { text = canonical_log_of_lines MESSAGE_LIMIT settings meanings; summary = summary_of MESSAGE_LIMIT settings log meanings };
-  outcome = (meanings, read, record { spelled = refl; fits = leb-true _ _ answer.2; counted = refl });
-  means = record { meanings = meanings; means = read.means; found = answer.0 };
-  counted = sym answer.1;
+  accepted = record {
+    accepted = record { text = canonical_log_of_lines MESSAGE_LIMIT settings meanings; summary = summary_of MESSAGE_LIMIT settings log meanings };
+    outcome = (meanings, read, record { spelled = refl; fits = leb-true _ _ answer.2; counted = refl });
+    means = record { meanings = meanings; means = read.means; found = answer.0 };
+    counted = sym answer.1;
+  };
+  spoken = record { meanings = meanings; means = read.means; found = answer.3 };
 }
 session_is_the_same settings log given (Err OutputLimit) old new (all, meanings, read, answer, wrote) = (meanings, read, leb-false _ _ answer)
 session_is_the_same settings log given (Err (BadLine line column)) old new (why, wrote) = why

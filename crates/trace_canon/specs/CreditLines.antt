@@ -1,22 +1,16 @@
--- The credit lines of a log, whatever identifiers it has, in words or as objects of JSON. An answer is credited to the
--- identifier that last asked for its service; a *credit line* is a pair of identifiers, one that asks and one that
--- answers it, with the number of the answers so credited.
-use Rattle.std.specs.Prelude.{ℕ, List, [], ◌∷◌, ◌++◌, codes, Option, Some, None}
+-- The credit lines of a log, whatever identifiers it has, in words, as objects of JSON, or as the units of a profile.
+-- An answer is credited to the identifier that last asked for its service; a *credit line* is an identifier that has a
+-- credited answer, its tester, the number of its answers credited to that, and how many requests that sent.
+use Rattle.std.specs.Prelude.{ℕ, List, [], ◌∷◌, ◌++◌, codes, take}
 use Rattle.std.specs.Fmt.{decimal}
 use Rattle.std.specs.List.{flat_map}
-use Rattle.can_log.specs.Frame.{FrameValue}
-use Rattle.can_log.specs.declared.frame.Stamped.{Stamped}
+use Rattle.trace_canon.specs.declared.credit_lines.CreditStyle.{CreditStyle}
+use Rattle.trace_canon.specs.declared.credit_lines.CreditStyle.TheVariants.{Lines, Profile}
 use Rattle.trace_text.specs.declared.notation.Notation.{Notation}
 use Rattle.trace_text.specs.declared.notation.Notation.TheVariants.{Text, Json}
 use Rattle.trace_text.specs.Json.{Members, nothing, member, object_line}
 use Rattle.trace_text.specs.Json as json
 use Rattle.uds_find.specs.declared.pair.CreditLine.{CreditLine}
-
--- the frames of lines that mean this, whatever their identifiers
-unfoldable pub frames_in : List (Option Stamped) → List FrameValue
-frames_in [] = []
-frames_in (None ∷ meanings) = frames_in meanings
-frames_in (Some stamped ∷ meanings) = stamped.frame ∷ frames_in meanings
 
 -- a credit line in words: its credits, and the options by which other commands take its identifiers
 abbrev pub worded_credit : CreditLine → List ℕ
@@ -26,14 +20,48 @@ worded_credit line =
 -- a credit line as an object of JSON
 abbrev pub credit_object : CreditLine → Members
 credit_object line =
-    member (codes "credits") (json.number line.credits) (member (codes "tester") (json.string line.tester.items)
-    (member (codes "unit") (json.string line.unit.items) nothing))
+    member (codes "credits") (json.number line.credits) (member (codes "requests") (json.number line.requests)
+    (member (codes "tester") (json.string line.tester.items) (member (codes "unit") (json.string line.unit.items) nothing)))
 
 -- a credit line as it is written in a notation
 abbrev pub credit_line_text : Notation → CreditLine → List ℕ
 credit_line_text Text line = worded_credit line
 credit_line_text Json line = object_line (credit_object line)
 
--- the text of credit lines, in order
-abbrev pub credit_lines_text : Notation → List CreditLine → List ℕ
-credit_lines_text notation lines = flat_map (credit_line_text notation) lines
+-- how many of its tester's requests a unit answered, as a comment
+unfoldable pub answered_comment : CreditLine → List ℕ
+answered_comment line = codes "# " ++ decimal line.credits ++ codes " of " ++ decimal line.requests ++ codes " requests answered\n"
+
+-- a unit's name, by both identifiers
+abbrev pub unit_name : CreditLine → List ℕ
+unit_name line = line.tester.items ++ codes "-" ++ line.unit.items
+
+-- the head of a unit's table, and its name
+unfoldable pub unit_head : CreditLine → List ℕ
+unit_head line = codes "[[unit]]\nname = \"" ++ unit_name line ++ codes "\"\n"
+
+-- the identifiers of a unit
+unfoldable pub unit_identifiers : CreditLine → List ℕ
+unit_identifiers line = codes "tester = \"" ++ line.tester.items ++ codes "\"\nunit = \"" ++ line.unit.items ++ codes "\"\n"
+
+-- a credit line as a unit of a profile
+unfoldable pub unit_text : CreditLine → List ℕ
+unit_text line = answered_comment line ++ unit_head line ++ unit_identifiers line
+
+-- the same behind another unit
+unfoldable pub later_unit_text : CreditLine → List ℕ
+later_unit_text line = codes "\n" ++ unit_text line
+
+-- how many units a profile may have behind its first: 64 in all
+abbrev pub most_later_units : ℕ
+most_later_units = 63
+
+-- the profile of the first credit lines, of which it has as many as it may have units
+abbrev pub profile_text : List CreditLine → List ℕ
+profile_text [] = codes "# nobody answered\n"
+profile_text (line ∷ more) = unit_text line ++ flat_map later_unit_text (take most_later_units more)
+
+-- the text of credit lines, in order: each as a line, or the first of them as a profile
+abbrev pub credit_lines_text : CreditStyle → List CreditLine → List ℕ
+credit_lines_text (Lines notation) lines = flat_map (credit_line_text notation) lines
+credit_lines_text Profile lines = profile_text lines

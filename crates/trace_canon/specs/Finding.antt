@@ -5,17 +5,18 @@ use Rattle.can_log.specs.declared.frame.Stamped.{Stamped}
 use Rattle.isotp_receive.specs.declared.TheConstants.{MESSAGE_LIMIT}
 use Rattle.trace_log.specs.declared.fault.Fault.{Fault}
 use Rattle.trace_canon.specs.declared.hearer.FoundCreditLines.{FoundCreditLines}
-use Rattle.trace_text.specs.declared.notation.Notation.{Notation}
+use Rattle.trace_canon.specs.declared.credit_lines.CreditStyle.{CreditStyle}
 use Rattle.trace_log.specs.declared.summary.Summary.{Summary}
 use Rattle.trace_log.specs.ReadAs.{IsReadAs}
-use Rattle.trace_canon.specs.CreditLines.{credit_lines_text, frames_in}
+use Rattle.trace_canon.specs.CreditLines.{credit_lines_text}
+use Rattle.trace_canon.specs.Heard.{frames_in}
 use Rattle.trace_canon.specs.WaysOfReading.{reading_to_find}
 use Rattle.trace_canon.specs.WrittenAtEnd.{RanAtEnd, TextOfLog, WritesAtEnd}
 use Rattle.trace_io.specs.declared.device.Source.{Ghosts as SourceGhosts}
 use Rattle.trace_io.specs.declared.device.Target.{Ghosts as TargetGhosts}
 use Rattle.trace_log.specs.Settings.{Settings}
 use Rattle.trace_log.specs.Summing.{counted_in, ends_in_line_feed}
-use Rattle.trace_run.specs.Ran.{CantBeRead}
+use Rattle.trace_run.specs.Stopping.{CantBeRead}
 use Rattle.uds_find.specs.Finding.{AreCreditLines}
 use Rattle.uds_find.specs.declared.pair.CreditLine.{CreditLine}
 
@@ -41,9 +42,9 @@ GivesFound settings log (Ok found) = IsFoundIn settings log found.credit_lines.i
 GivesFound settings log (Err fault) = CantBeRead settings log fault
 
 -- the text of a log's credit lines, as a call writes it at the end
-abbrev pub text_of_credit_lines : Notation → Settings → TextOfLog (List CreditLine)
-text_of_credit_lines notation settings = record {
-  text = credit_lines_text notation;
+abbrev pub text_of_credit_lines : CreditStyle → Settings → TextOfLog (List CreditLine)
+text_of_credit_lines style settings = record {
+  text = credit_lines_text style;
   gives = IsFoundIn settings;
   lacks = CantBeRead settings;
   reading = reading_to_find settings;
@@ -51,10 +52,10 @@ text_of_credit_lines notation settings = record {
 
 -- What is answered on a log, and what is then written: its counts, and the text of its credit lines; else why it can't
 -- be read.
-abbrev pub Finds : Notation → Settings → List ℕ → Result Summary Fault → List ℕ → List ℕ → Type 0
-Finds notation settings = WritesAtEnd (text_of_credit_lines notation settings)
+abbrev pub Finds : CreditStyle → Settings → List ℕ → Result Summary Fault → List ℕ → List ℕ → Type 0
+Finds style settings = WritesAtEnd (text_of_credit_lines style settings)
 
 -- the run of a call that writes the text of a log's credit lines
-abbrev pub RanToFind : {R W : Type 0} → SourceGhosts R → TargetGhosts W → Notation → Settings
+abbrev pub RanToFind : {R W : Type 0} → SourceGhosts R → TargetGhosts W → CreditStyle → Settings
     → R → W → Result Summary Fault → R → W → Type 0
-RanToFind source target notation settings = RanAtEnd source target (text_of_credit_lines notation settings)
+RanToFind source target style settings = RanAtEnd source target (text_of_credit_lines style settings)

@@ -19,15 +19,16 @@ use Rattle.trace_canon.specs.ExplainScript.{explain_script}
 use Rattle.trace_canon.specs.Finding.{IsFoundIn}
 use Rattle.trace_canon.specs.MemoryNeeded.{NeedsMemoryToCollect, NeedsMemoryToFind, NeedsMemoryToOrder}
 use Rattle.trace_canon.specs.CreditLines.{credit_lines_text}
+use Rattle.trace_canon.specs.declared.credit_lines.CreditStyle.TheVariants.{Lines}
 use Rattle.trace_text.specs.ItemLines.{list_text}
 use Rattle.trace_log.specs.CanonicalLog.{canonical_log_of_lines}
 use Rattle.trace_log.specs.Needing.{HasTextOf, NeedsMemoryToReceive}
 use Rattle.trace_log.specs.Outcome.{IsOutcome}
 use Rattle.trace_canon.specs.MessagesScript.{messages_script}
-use Rattle.trace_log.specs.Settings.{Settings}
+use Rattle.trace_log.specs.Settings.{Settings, without_rules}
 use Rattle.trace_log.specs.Summing.{summary_of}
 use Rattle.trace_run.specs.Script.{Script, said_of_lines, whole_of_lines}
-use Rattle.trace_run.specs.Ran.{CantBeRead}
+use Rattle.trace_run.specs.Stopping.{CantBeRead}
 use Rattle.uds_find.specs.declared.pair.CreditLine.{CreditLine}
 
 -- The fault is not that of a device, and refused memory only where some is needed.
@@ -56,7 +57,7 @@ IsCanonicalLogWith limit settings log text summary =
 -- the log is accepted with these counts, and this is the list of its items in this style
 abbrev pub IsListWith : ItemStyle → ℕ → Settings → List ℕ → List ℕ → Summary → Type 0
 IsListWith style limit settings log text summary =
-    (items : List ItemValue) × IsAcceptedWith limit settings log items summary × (text ≡ list_text style items)
+    (items : List ItemValue) × IsAcceptedWith limit settings log items summary × (text ≡ list_text settings.rules style items)
 
 -- the log can be read and has these counts, and this is all that a script says of it
 abbrev pub IsSaidWith : Script → ℕ → Settings → List ℕ → List ℕ → Summary → Type 0
@@ -66,16 +67,16 @@ IsSaidWith script limit settings log text summary =
 
 -- the log can be read and has these counts, and these are the lines of its messages in this notation
 abbrev pub AreMessageLinesWith : Notation → ℕ → Settings → List ℕ → List ℕ → Summary → Type 0
-AreMessageLinesWith notation limit = IsSaidWith (messages_script notation limit) limit
+AreMessageLinesWith notation limit settings = IsSaidWith (messages_script notation limit settings.rules) limit settings
 
--- the log can be read and has these counts, and this explains it in this notation
+-- the log can be read and has these counts, and this explains it in this notation, as it is, without rules
 abbrev pub IsExplanationWith : Notation → ℕ → Settings → List ℕ → List ℕ → Summary → Type 0
-IsExplanationWith notation limit = IsSaidWith (explain_script notation limit) limit
+IsExplanationWith notation limit settings = IsSaidWith (explain_script notation limit) limit (without_rules settings)
 
 -- the log can be read and has these counts, and this is the text of its credit lines in this notation
 abbrev pub AreCreditLinesWith : Notation → Settings → List ℕ → List ℕ → Summary → Type 0
 AreCreditLinesWith notation settings log text summary =
-    (lines : List CreditLine) × IsFoundIn settings log lines summary × (text ≡ credit_lines_text notation lines)
+    (lines : List CreditLine) × IsFoundIn settings log lines summary × (text ≡ credit_lines_text (Lines notation) lines)
 
 -- there is a text of this kind, of one byte at least
 abbrev pub HasBytes : (List ℕ → Summary → Type 0) → Type 0
@@ -94,7 +95,7 @@ NeedsMemoryForList style limit settings log =
 -- Memory is needed to gather the lines of messages: to read the log, or since its first lines deliver one.
 abbrev pub NeedsMemoryForMessageLines : Notation → ℕ → Settings → List ℕ → Type 0
 NeedsMemoryForMessageLines notation limit settings log =
-    NeedsMemoryToReceive limit settings log ⊎ HasTextOf (said_of_lines (messages_script notation limit) settings) log
+    NeedsMemoryToReceive limit settings log ⊎ HasTextOf (said_of_lines (messages_script notation limit settings.rules) settings) log
 
 -- Memory is needed to gather what explains a log, whichever it is, for each has its counts.
 abbrev pub NeedsMemoryForExplanation : ℕ → Settings → List ℕ → Type 0

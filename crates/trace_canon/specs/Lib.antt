@@ -1,5 +1,6 @@
 pub mod FirstFrames
 pub mod ReceptionStarts
+pub mod Heard
 pub mod CreditLines
 pub mod MemoryNeeded
 pub mod WaysOfReading
@@ -15,4 +16,5 @@ pub mod ItemText
 pub mod Finding
 pub mod InMemory
 pub mod Laws
+pub mod ListLaws
 pub mod proving

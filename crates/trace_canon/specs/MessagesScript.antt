@@ -1,10 +1,12 @@
--- What `messages` writes: a line for each message that is delivered, in the order of delivery, in words or as an object
--- of JSON, with the places of the first frame of the message and of its last one.
-use Rattle.std.specs.Prelude.{ℕ, false, List, [], ◌++◌, codes}
+-- What `messages` writes: a line for each message that is delivered and that rules leave, in the order of delivery, in
+-- words or as an object of JSON, with the places of the first frame of the message and of its last one.
+use Rattle.std.specs.Prelude.{ℕ, false, List, [], ◌++◌, codes, Option, Some, None}
 use Rattle.std.specs.Fmt.{decimal}
 use Rattle.direction.specs.Dir.{Message}
 use Rattle.isotp_receive.specs.Trace.{Entry}
-use Rattle.isotp_receive.specs.Verdict.{VerdictValue, message, began, stored, flowed, dropped, messages, verdict}
+use Rattle.isotp_receive.specs.Verdict.{VerdictValue, message, began, stored, flowed, dropped, verdict}
+use Rattle.uds_rules.specs.Rule.{RuleValue, made_of}
+use Rattle.trace_log.specs.Messages.{messages_under}
 use Rattle.uds_exchange.specs.Judging.{sent, step_after, number_after}
 use Rattle.uds_exchange.specs.declared.judge.Judged.{Judged}
 use Rattle.uds_exchange.specs.declared.step.Step.{Step}
@@ -15,7 +17,8 @@ use Rattle.trace_canon.specs.declared.message_parts.FrameExtent.{FrameExtent}
 use Rattle.trace_text.specs.declared.notation.Notation.{Notation}
 use Rattle.trace_text.specs.declared.notation.Notation.TheVariants.{Text, Json}
 use Rattle.trace_run.specs.Script.{Script}
-use Rattle.trace_text.specs.Words.{bytes_text, direction_text, role_text, stamp_text}
+use Rattle.trace_text.specs.RuledText.{ruled_text}
+use Rattle.trace_text.specs.Words.{direction_text, role_text, stamp_text}
 
 -- the lines and the stamps of the first frame of a message and of its last one
 abbrev pub extent_text : FrameExtent → List ℕ
@@ -23,7 +26,7 @@ extent_text extent =
     codes " lines " ++ decimal extent.first.line ++ codes " to " ++ decimal extent.last.line
     ++ codes " at " ++ stamp_text extent.first.micros ++ codes " to " ++ stamp_text extent.last.micros
 
--- A message that is delivered, with its item and its frames.
+-- A message that is delivered and that rules leave, with its item and its frames.
 pub record PlacedMessage : Type 0 where
   -- the number of its item, and its step, which is its role in that item
   pub number : ℕ
@@ -39,26 +42,26 @@ judged_at judged extent =
     record { number = judged.item_number; step = judged.step; sent = sent judged; extent = extent }
 
 -- the line of a placed message in words
-abbrev pub placed_line : PlacedMessage → List ℕ
-placed_line placed =
+abbrev pub placed_line : List RuleValue → PlacedMessage → List ℕ
+placed_line rules placed =
     decimal placed.number ++ codes " " ++ role_text placed.step ++ codes " " ++ direction_text placed.sent.0
-    ++ extent_text placed.extent ++ codes " " ++ bytes_text placed.sent.1 ++ codes "\n"
+    ++ extent_text placed.extent ++ codes " " ++ ruled_text rules placed.sent.1 ++ codes "\n"
 
 -- the members of the object of a placed message
-abbrev pub placed_members : PlacedMessage → Members
-placed_members placed =
+abbrev pub placed_members : List RuleValue → PlacedMessage → Members
+placed_members rules placed =
     member (codes "item") (json.number placed.number) (member (codes "role") (json.string (role_text placed.step))
     (member (codes "direction") (json.string (direction_text placed.sent.0))
     (member (codes "first_line") (json.number placed.extent.first.line)
     (member (codes "last_line") (json.number placed.extent.last.line)
     (member (codes "start") (json.string (stamp_text placed.extent.first.micros))
     (member (codes "end") (json.string (stamp_text placed.extent.last.micros))
-    (member (codes "message") (json.string (bytes_text placed.sent.1)) nothing)))))))
+    (member (codes "message") (json.string (ruled_text rules placed.sent.1)) nothing)))))))
 
 -- the line of a placed message in a notation
-abbrev pub placed_text : Notation → PlacedMessage → List ℕ
-placed_text Text placed = placed_line placed
-placed_text Json placed = object_line (placed_members placed)
+abbrev pub placed_text : Notation → List RuleValue → PlacedMessage → List ℕ
+placed_text Text rules placed = placed_line rules placed
+placed_text Json rules placed = object_line (placed_members rules placed)
 
 -- a message that comes behind the messages M, as it is judged there, from its first frame to its last one
 abbrev pub placed_behind : List Message → Message → Entry → Entry → PlacedMessage
@@ -70,19 +73,24 @@ placed_behind M sent first last =
       extent = record { first = place_of first; last = place_of last };
     }
 
+-- the line of the message that rules left of the one that the frame e completes after the frames T, if they left one
+abbrev pub left_line : Notation → ℕ → List RuleValue → List Entry → Entry → Option (List ℕ) → List ℕ
+left_line notation limit rules T e None = []
+left_line notation limit rules T e (Some bytes) =
+    placed_text notation rules (placed_behind (messages_under rules limit T) (e.dir, bytes) (first_frame T e) e)
+
 -- the line of the message that the frame e completes after the frames T, where it does this
-abbrev pub delivered_line : Notation → ℕ → List Entry → Entry → VerdictValue → List ℕ
-delivered_line notation limit T e (message bytes) =
-    placed_text notation (placed_behind (messages limit T) (e.dir, bytes) (first_frame T e) e)
-delivered_line notation limit T e began = []
-delivered_line notation limit T e stored = []
-delivered_line notation limit T e flowed = []
-delivered_line notation limit T e (dropped reason) = []
+abbrev pub delivered_line : Notation → ℕ → List RuleValue → List Entry → Entry → VerdictValue → List ℕ
+delivered_line notation limit rules T e (message bytes) = left_line notation limit rules T e (made_of rules bytes)
+delivered_line notation limit rules T e began = []
+delivered_line notation limit rules T e stored = []
+delivered_line notation limit rules T e flowed = []
+delivered_line notation limit rules T e (dropped reason) = []
 
 -- what `messages` says: of each frame the line of the message that it completes, and nothing at the end
-abbrev pub messages_script : Notation → ℕ → Script
-messages_script notation limit = record {
+abbrev pub messages_script : Notation → ℕ → List RuleValue → Script
+messages_script notation limit rules = record {
   strict = false;
-  of_frame = λ T e. delivered_line notation limit T e (verdict limit T e).verdict;
+  of_frame = λ T e. delivered_line notation limit rules T e (verdict limit T e).verdict;
   at_the_end = λ T summary. [];
 }

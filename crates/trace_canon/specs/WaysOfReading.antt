@@ -27,8 +27,8 @@ reading_to_order limit settings = record {
   max_bytes = settings.max_bytes;
 }
 
--- how a log is read whose items are collected: memory is needed for a message of several frames, or for one that is
--- complete
+-- how a log is read whose items are collected: memory is needed for a message of several frames, for one that is
+-- masked, or for one that is complete
 abbrev pub reading_to_collect : ℕ → Settings → WayOfReading
 reading_to_collect limit settings = record {
   unrefused = IsNotRefusedWithin limit settings;
@@ -36,7 +36,7 @@ reading_to_collect limit settings = record {
   max_bytes = settings.max_bytes;
 }
 
--- how a log is read for its credit lines: memory is needed where an answer is credited
+-- how a log is read for its credit lines: memory is needed where a frame asks
 abbrev pub reading_to_find : Settings → WayOfReading
 reading_to_find settings =
     record { unrefused = HasNoBadPlaceWithin; needs = NeedsMemoryToFind; max_bytes = settings.max_bytes }

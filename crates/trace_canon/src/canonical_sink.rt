@@ -38,7 +38,7 @@ pub(crate) fn say_due<S: TextSink>(
     let mut sink = CanonicalSink {
         out,
         progress,
-        config: *config,
+        config,
     };
     match orderer.take(message, &mut sink) {
         Ok(()) => Ok(()),
@@ -46,8 +46,8 @@ pub(crate) fn say_due<S: TextSink>(
     }
 }
 
-/// What a fault of this orderer is: memory was refused. Its sink takes all that is put, so it has no fault of its own, and
-/// the orderer has not failed before, since a run ends with its first fault.
+/// What a fault of this orderer is: memory was refused. Its sink takes all that is put, so it has no fault of its own,
+/// and the orderer has not failed before, since a run ends with its first fault.
 fn refused_memory(fault: OrderFault<NoFault>) -> AllocError {
     match fault {
         OrderFault::Memory | OrderFault::Failed => AllocError,
@@ -70,7 +70,7 @@ pub(crate) fn say_held<S: TextSink>(
     let mut sink = CanonicalSink {
         out,
         progress,
-        config: *config,
+        config,
     };
     // The sink takes all that is put, and no memory is asked for: so this never fails.
     let _ = orderer.finish(&mut sink);
@@ -82,7 +82,7 @@ pub(crate) fn say_held<S: TextSink>(
 pub(crate) struct CanonicalSink<'a, S> {
     pub out: &'a mut S,
     pub progress: &'a mut Progress,
-    pub config: Config,
+    pub config: &'a Config,
 }
 
 impl<'a, S: TextSink> MessageSink for CanonicalSink<'a, S> {
@@ -95,7 +95,7 @@ impl<'a, S: TextSink> MessageSink for CanonicalSink<'a, S> {
     ghost after_err = { λ s d m e t. ⊥ };
 
     fn put(&mut self, dir: Dir, message: &[u8]) -> Result<(), NoFault> {
-        say_canonical(&self.config, self.progress, dir, message, self.out);
+        say_canonical(self.config, self.progress, dir, message, self.out);
         Ok(())
     }
 }

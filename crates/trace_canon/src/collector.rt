@@ -19,7 +19,9 @@ use isotp_receive::Pair;
 use std::alloc::{AllocError, Global};
 use trace_io::{Source, TextSink};
 use trace_log::{Config, Fault, Summary};
-use trace_run::{Glimpse, Machine, NoAnswer, Nowhere, Seen, run};
+use trace_run::{
+    Glimpse, Machine, NoAnswer, Nowhere, RuleCounts, Seen, count_message, no_counts, run,
+};
 use uds_exchange::{Judged, JudgedPairing, Meaning, Step};
 
 /// What an accepted log means, and what was counted in it.
@@ -27,6 +29,8 @@ use uds_exchange::{Judged, JudgedPairing, Meaning, Step};
 pub struct Session {
     pub meaning: Meaning,
     pub summary: Summary,
+    /// Of how many messages of the log each rule spoke.
+    pub spoken: RuleCounts,
 }
 
 /// Reads a log, and gives what its messages mean. It accepts the logs that [`normalise`](crate::normalise) accepts, and
@@ -54,21 +58,24 @@ pub(crate) fn session_of<R: Source>(
     ensures configured { AreSettings config.now }
 {
     let machine = Collector {
-        config: *config,
+        config,
         collected: Some(Collected {
             pairing: JudgedPairing::new(alloc),
             room: config.max_bytes(),
         }),
+        spoken: no_counts(config.rules()),
     };
     run(alloc, config, machine, source, &mut Nowhere::new())
 }
 
 /// Pairs the messages, and answers with all items at the end.
 #[derive(Drop)]
-pub(crate) struct Collector {
-    pub config: Config,
+pub(crate) struct Collector<'a> {
+    pub config: &'a Config,
     /// What the messages so far mean, if the canonical log of that is within the limit.
     pub collected: Option<Collected>,
+    /// Of how many messages each rule spoke.
+    pub spoken: RuleCounts,
 }
 
 /// Items whose canonical log is within the limit.
@@ -79,21 +86,21 @@ pub(crate) struct Collected {
     pub room: u64,
 }
 
-impl Machine for Collector {
+impl<'a> Machine for Collector<'a> {
     ghost use Rattle.isotp_receive.specs.declared.TheConstants.{MESSAGE_LIMIT};
-    ghost use Rattle.isotp_receive.specs.Verdict.{messages};
     ghost use Rattle.trace_canon.specs.FirstFrames.{CompletesMessage};
-    ghost use Rattle.trace_canon.specs.proving.SessionScript.{Collects, answers_session, silent_script};
+    ghost use Rattle.trace_canon.specs.proving.SessionScript.{CollectsSession, answers_session, silent_script};
 
     type Answer = Session;
 
-    ghost stands = { λ start T now. Collects start.config (messages MESSAGE_LIMIT T) now.collected now.config };
+    ghost stands = { λ rules start T now.
+        CollectsSession rules start.config.now T now.collected now.config.now now.spoken.items };
 
-    ghost script = { λ start. silent_script };
+    ghost script = { λ rules start. silent_script };
 
-    ghost answers = { λ start. answers_session start.config };
+    ghost answers = { λ rules start. answers_session rules start.config.now };
 
-    ghost needs = { λ start. CompletesMessage MESSAGE_LIMIT };
+    ghost needs = { λ rules start. CompletesMessage MESSAGE_LIMIT };
 
     #[inline(always)]
     fn is_strict(&self) -> bool {
@@ -102,6 +109,7 @@ impl Machine for Collector {
 
     #[inline(always)]
     fn event<S: TextSink>(&mut self, seen: Seen<'_>, _out: &mut S) -> Result<(), AllocError> {
+        count_message(self.config.rules(), seen.event.verdict, &mut self.spoken);
         let Some(message) = seen.message else {
             return Ok(());
         };
@@ -114,10 +122,16 @@ impl Machine for Collector {
         summary: &Summary,
         _out: &mut S,
     ) -> Result<Session, NoAnswer> {
-        match self.collected {
+        let Collector {
+            config: _,
+            collected,
+            spoken,
+        } = self;
+        match collected {
             Some(collected) => Ok(Session {
                 meaning: collected.pairing.finish(),
                 summary: *summary,
+                spoken,
             }),
             None => Err(NoAnswer::OutputLimit),
         }
@@ -132,8 +146,8 @@ impl Machine for Collector {
     ) {}
 }
 
-impl Collector {
-    ghost use Rattle.std.specs.Prelude.{List, [], ◌∷◌, ◌++◌, OnOk};
+impl<'a> Collector<'a> {
+    ghost use Rattle.std.specs.Prelude.{◌≡◌, List, [], ◌∷◌, ◌++◌, OnOk};
     ghost use Rattle.direction.specs.Dir.{Message};
     ghost use Rattle.uds_exchange.specs.Judging.{IsJudgedAfter, sent};
     ghost use Rattle.trace_log.specs.Settings.{Settings};
@@ -141,11 +155,12 @@ impl Collector {
 
     /// Takes one more message. Once there is no room for its canonical lines nothing is kept any more.
     fn take(&mut self, message: Judged<'_>) -> Result<(), AllocError>
-        ensures { OnOk result ((settings : Settings) (M : List Message) → IsJudgedAfter M message.entry
-            → Collects settings M self.old.collected self.old.config
-            → Collects settings (M ++ sent message.entry ∷ []) self.new.collected self.new.config) }
+        ensures collects { OnOk result ((settings : Settings) (M : List Message) → IsJudgedAfter M message.entry
+            → Collects settings M self.old.collected self.old.config.now
+            → Collects settings (M ++ sent message.entry ∷ []) self.new.collected self.new.config.now) }
+        ensures spoken { self.new.spoken ≡ self.old.spoken }
     {
-        let added = added_length(&self.config, message);
+        let added = added_length(self.config, message);
         let Some(collected) = &mut self.collected else {
             return Ok(());
         };

@@ -1,14 +1,15 @@
 //! `explain`: a machine that says what became of each frame.
 ghost use Rattle.std.specs.Prelude.{ℕ, List, IfOk};
+ghost use Rattle.trace_io.specs.Counted.{IsLowCount};
 ghost use Rattle.isotp_receive.specs.EventSeen.{seen_event, seen_verdict};
 ghost use Rattle.isotp_receive.specs.declared.TheConstants.{MESSAGE_LIMIT};
+ghost use Rattle.trace_log.specs.Devices.{AgreesWith, HasLowCounts};
+ghost use Rattle.trace_log.specs.Laws.{Certifies};
+ghost use Rattle.trace_log.specs.Settings.{without_rules};
+ghost use Rattle.trace_run.specs.Ran.{RanLenient};
+ghost use Rattle.trace_run.specs.Script.{answers_counts, command, needs_none, says_no_refusal};
 ghost use Rattle.trace_canon.specs.ExplainScript.{dropped_text, end_text, ended_text, event_text, unfinished_line};
 ghost use Rattle.trace_canon.specs.ExplainScript.{explain_script};
-ghost use Rattle.trace_log.specs.Laws.{Certifies};
-ghost use Rattle.trace_run.specs.Script.{answers_counts, command, needs_none, says_no_refusal};
-ghost use Rattle.trace_run.specs.Ran.{RanLenient};
-ghost use Rattle.trace_io.specs.Counted.{IsLowCount};
-ghost use Rattle.trace_log.specs.Devices.{AgreesWith, HasLowCounts};
 
 use direction::Dir;
 use isotp_receive::{Ended, Event, Pair, Verdict};
@@ -19,7 +20,8 @@ use trace_run::{Glimpse, Machine, NoAnswer, Seen, run_lenient};
 use trace_text::{Notation, Remark, say_remark};
 
 /// Reads a log and writes a line for each reception that ended without its message and for each frame that was dropped,
-/// as they come; then the receptions that stand at the end, and the counts. In words or as objects of JSON.
+/// as they come; then the receptions that stand at the end, and the counts. In words or as objects of JSON. It tells of
+/// the log as it is: it knows no rules, and counts none of their messages as left out.
 ///
 /// The target is not flushed.
 pub fn explain<R: Source, W: Target>(
@@ -35,13 +37,14 @@ pub fn explain<R: Source, W: Target>(
     // What is answered and written; that it is written before more is read; and what was done with the devices.
     ensures ran { RanLenient R.Source W.Target
         (command (explain_script notation MESSAGE_LIMIT) says_no_refusal answers_counts needs_none)
-        config.now source.old target.old result source.new target.new }
+        (without_rules config.now) source.old target.old result source.new target.new }
 
     // Where nothing was dropped, ended or left unfinished, the log is a recording.
     ensures certificate { (log : List ℕ) → AgreesWith R.Source source.old source.new log
         → IfOk result (Certifies MESSAGE_LIMIT config.now log) }
 {
-    run_lenient(alloc, config, Explainer { notation }, source, target)
+    let plain = config.without_rules();
+    run_lenient(alloc, &plain, Explainer { notation }, source, target)
 }
 
 /// Says the lines of each frame.
@@ -58,13 +61,13 @@ impl Machine for Explainer {
 
     type Answer = Summary;
 
-    ghost stands = { λ start T now. now.notation ≡ start.notation };
+    ghost stands = { λ rules start T now. now.notation ≡ start.notation };
 
-    ghost script = { λ start. explain_script start.notation MESSAGE_LIMIT };
+    ghost script = { λ rules start. explain_script start.notation MESSAGE_LIMIT };
 
-    ghost answers = { λ start. answers_counts };
+    ghost answers = { λ rules start. answers_counts };
 
-    ghost needs = { λ start. needs_none };
+    ghost needs = { λ rules start. needs_none };
 
     #[inline(always)]
     fn is_strict(&self) -> bool {

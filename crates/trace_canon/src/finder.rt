@@ -4,53 +4,52 @@ ghost use Rattle.trace_canon.specs.Finding.{RanToFind};
 ghost use Rattle.trace_io.specs.Counted.{IsLowCount};
 ghost use Rattle.trace_log.specs.Devices.{HasLowCounts};
 
-use crate::credit_lines::say_credit_lines;
+use crate::credit_lines::{CreditStyle, say_credit_lines};
 use crate::hearer::found_in;
 use std::alloc::Global;
 use text_parts::Part;
 use trace_io::{Source, Target, TextSink};
 use trace_log::{Config, Fault, Summary};
 use trace_run::print;
-use trace_text::Notation;
 use uds_find::CreditLine;
 
-/// Reads a log, and then writes its credit lines in this notation. Of the configuration `max_bytes` alone counts.
+/// Reads a log, and then writes its credit lines in this style. Of the configuration `max_bytes` alone counts.
 ///
 /// The target is not flushed.
 pub fn find<R: Source, W: Target>(
     alloc: Global,
     config: &Config,
-    notation: Notation,
+    style: CreditStyle,
     source: &mut R,
     target: &mut W,
 ) -> Result<Summary, Fault>
     requires source { HasLowCounts R.Source source.old }
     requires target { IsLowCount (W.failures target.old) }
 
-    ensures ran { RanToFind R.Source W.Target notation config.now source.old target.old result source.new target.new }
+    ensures ran { RanToFind R.Source W.Target style config.now source.old target.old result source.new target.new }
 {
     let found = found_in(alloc, config, source)?;
     let lines = CreditLines {
         lines: &found.credit_lines,
-        notation,
+        style,
     };
     print(lines, target)?;
     Ok(found.summary)
 }
 
-/// The text of credit lines, in order, in a notation.
+/// The text of credit lines, in order, in a style.
 #[derive(Clone, Copy)]
 struct CreditLines<'a> {
-    lines: &'a Vec<CreditLine>,
-    notation: Notation,
+    lines: &'a [CreditLine],
+    style: CreditStyle,
 }
 
 impl<'a> Part for CreditLines<'a> {
     ghost use Rattle.trace_canon.specs.CreditLines.{credit_lines_text};
 
-    ghost text = { λ part. credit_lines_text part.notation part.lines.now.items };
+    ghost text = { λ part. credit_lines_text part.style part.lines.now };
 
     fn say<S: TextSink>(self, out: &mut S) {
-        say_credit_lines(self.lines, self.notation, out);
+        say_credit_lines(self.lines, self.style, out);
     }
 }

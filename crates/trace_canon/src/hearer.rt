@@ -4,7 +4,7 @@
 ghost use Rattle.std.specs.Prelude.{◌≡◌, List, ℕ, [], length, IfErr, IfOk, Option};
 ghost use Rattle.can_log.specs.declared.frame.Stamped.{Stamped as StampedValue};
 ghost use Rattle.trace_canon.specs.Finding.{GivesFound, IsFoundOf, summary_of_lines};
-ghost use Rattle.trace_canon.specs.CreditLines.{frames_in};
+ghost use Rattle.trace_canon.specs.Heard.{frames_in};
 ghost use Rattle.trace_canon.specs.WaysOfReading.{reading_to_find};
 ghost use Rattle.trace_canon.specs.ReadOnly.{RanToRead};
 ghost use Rattle.trace_canon.specs.proving.Hearing.{HasHeard};
@@ -76,24 +76,12 @@ impl Hearer {
     }
 }
 
-/// What is counted in a log of so many lines. Where nobody told the identifiers, no frame is of a side.
-fn summary(lines: u64, ends_in_line_feed: bool) -> Summary
-    ensures { (log : List ℕ) (meanings : List (Option StampedValue)) → lines ≡ length meanings
-        → ends_in_line_feed ≡ Spec.ends_in_line_feed log → result ≡ summary_of_lines log meanings }
-{
-    Summary {
-        lines,
-        ends_in_line_feed,
-        ..Summary::nothing()
-    }
-}
-
 impl LineTaker for Hearer {
     ghost use Rattle.std.specs.Prelude.{◌≡◌, ⊤, [], ◌∷◌, ◌++◌};
-    ghost use Rattle.trace_canon.specs.CreditLines.{frames_in};
+    ghost use Rattle.trace_canon.specs.Heard.{frames_in};
     ghost use Rattle.trace_log.specs.declared.fault.Fault.TheVariants.{Memory};
     ghost use Rattle.trace_canon.specs.proving.Hearing.{HasHeard};
-    ghost use Rattle.uds_find.specs.Credit.{HasCredit};
+    ghost use Rattle.uds_find.specs.Asking.{HasAsking};
 
     type Device = ();
 
@@ -105,7 +93,7 @@ impl LineTaker for Hearer {
     ghost broke = { λ s meanings t. ⊥ };
 
     ghost stopped = { λ s meanings what fault t. HasHeard [] s.0.finder s.0.lines
-        → (fault ≡ Memory) × HasCredit (frames_in (meanings ++ what ∷ [])) };
+        → (fault ≡ Memory) × HasAsking (frames_in (meanings ++ what ∷ [])) };
 
     ghost sure = { λ s first t. ⊤ };
 
@@ -129,5 +117,17 @@ impl LineTaker for Hearer {
             Some(stamped) => Ok(self.finder.take(&stamped.frame)?),
             None => Ok(()),
         }
+    }
+}
+
+/// What is counted in a log of so many lines. Where nobody told the identifiers, no frame is of a side.
+fn summary(lines: u64, ends_in_line_feed: bool) -> Summary
+    ensures { (log : List ℕ) (meanings : List (Option StampedValue)) → lines ≡ length meanings
+        → ends_in_line_feed ≡ Spec.ends_in_line_feed log → result ≡ summary_of_lines log meanings }
+{
+    Summary {
+        lines,
+        ends_in_line_feed,
+        ..Summary::nothing()
     }
 }

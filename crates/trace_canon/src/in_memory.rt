@@ -10,6 +10,7 @@ ghost use Rattle.trace_canon.specs.InMemory as Spec;
 
 use crate::collector::meaning_of;
 use crate::comparer::{Compared, Comparison, compare};
+use crate::credit_lines::CreditStyle;
 use crate::explainer::explain;
 use crate::finder::find;
 use crate::lister::list;
@@ -114,7 +115,8 @@ pub fn credit_lines(
         (IsUnread (NeedsMemoryForCreditLines notation) MESSAGE_LIMIT config.now log.now) }
 {
     let mut target = Writing::new(Vec::new(alloc));
-    let answer = find(alloc, config, notation, &mut Bytes::new(log), &mut target);
+    let style = CreditStyle::Lines(notation);
+    let answer = find(alloc, config, style, &mut Bytes::new(log), &mut target);
     counted_text(answer, target.into_inner())
 }
 

@@ -45,18 +45,18 @@ pub fn write_items<T: ItemText, R: Source, W: Target>(
 {
     let session = session_of(alloc, config, source)?;
     let items = &session.meaning;
-    print(OfItems { text, items }, target)?;
+    print(TextWithItems { text, items }, target)?;
     Ok(session.summary)
 }
 
 /// A text of these items.
 #[derive(Clone, Copy)]
-struct OfItems<'a, T> {
+struct TextWithItems<'a, T> {
     text: &'a T,
     items: &'a Meaning,
 }
 
-impl<'a, T: ItemText> Part for OfItems<'a, T> {
+impl<'a, T: ItemText> Part for TextWithItems<'a, T> {
     ghost text = { λ of. T.text of.text.now of.items.now };
 
     fn say<S: TextSink>(self, out: &mut S) {

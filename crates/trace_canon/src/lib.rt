@@ -1,5 +1,5 @@
-//! The commands over a log: its canonical log, its items, its messages, what was dropped, and whether two logs are the
-//! same session.
+//! The commands over a log: its canonical log, its items, its messages, what was dropped, which identifiers answer, and
+//! whether two logs are the same session.
 //!
 //! Two recordings of one diagnostic session differ in time stamps, interface names, padding, frame sizes and foreign
 //! traffic. [`normalise`] reads a log and writes the one spelling that all logs with the same meaning share. So two
@@ -28,7 +28,7 @@
 //!
 //! | Command | Files | Definitions |
 //! |---|---|---|
-//! | [`normalise`] | `normaliser`, `canonical_sink`, `canonical_lines`, `progress`, `length` | `Answers`, `Outcome`, `CanonicalLog` of `trace_log` |
+//! | [`normalise`] | `normaliser`, `canonical_sink`, `canonical_lines`, `progress` | `CanonicalLog` of `trace_log` |
 //! | [`explain`] | `explainer` | `ExplainScript` |
 //! | [`messages`] | `messenger`, `message_objects`, `message_parts` | `MessagesScript` |
 //! | [`watch`] | `watcher` | `WatchScript` |
@@ -36,7 +36,7 @@
 //! | [`compare`] | `comparer` | `Compared` |
 //! | [`write_comparison`] | `comparison_text`, `comparison_objects`, `compared_items` | `ComparisonText` |
 //! | [`list`], [`write_items`] | `lister`, `item_text` | `ItemText` |
-//! | [`find`] | `finder`, `hearer`, `credit_lines` | `Finding`, `CreditLines` |
+//! | [`find`] | `finder`, `hearer`, `credit_lines` | `Heard`, `Finding`, `CreditLines` |
 //! | where messages began, for [`messages`] and for a page | [`reception_starts`] | `FirstFrames`, `ReceptionStarts` |
 //! | over logs in memory, seven of these | [`in_memory`] | `InMemory` |
 //! | laws of [`watch`] and of [`messages`] | [`laws`] | `Laws` |
@@ -78,6 +78,7 @@ mod watcher;
 pub use collector::{Session, meaning_of};
 pub use comparer::{Compared, Comparison, compare};
 pub use comparison_text::{ComparisonStyle, write_comparison};
+pub use credit_lines::CreditStyle;
 pub use explainer::explain;
 pub use finder::find;
 pub use item_text::{ItemText, write_items};

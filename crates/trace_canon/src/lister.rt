@@ -11,6 +11,7 @@ use trace_io::{Source, Target, TextSink};
 use trace_log::{Config, Fault, Summary};
 use trace_text::{ItemStyle, say_items};
 use uds_exchange::Meaning;
+use uds_rules::Rules;
 
 /// Reads a log, and then writes a line for each item of its meaning, in this style.
 ///
@@ -24,18 +25,29 @@ pub fn list<R: Source, W: Target>(
 ) -> Result<Summary, Fault>
     requires source { HasLowCounts R.Source source.old }
     requires target { IsLowCount (W.failures target.old) }
-    ensures ran { RanOverItems R.Source W.Target (list_text style) MESSAGE_LIMIT
+    ensures ran { RanOverItems R.Source W.Target (list_text config.now.rules style) MESSAGE_LIMIT
         config.now source.old target.old result source.new target.new }
 {
-    write_items(alloc, config, &style, source, target)
+    let text = RuledList {
+        style,
+        rules: config.rules(),
+    };
+    write_items(alloc, config, &text, source, target)
 }
 
-impl ItemText for ItemStyle {
+/// The list of items in a style, whose messages are as these rules left them.
+#[derive(Clone, Copy)]
+struct RuledList<'a> {
+    style: ItemStyle,
+    rules: &'a Rules,
+}
+
+impl<'a> ItemText for RuledList<'a> {
     ghost use Rattle.trace_text.specs.ItemLines.{list_text};
 
-    ghost text = { λ style. list_text style };
+    ghost text = { λ list. list_text list.rules.now list.style };
 
     fn say<S: TextSink>(&self, items: &Meaning, out: &mut S) {
-        say_items(items, *self, out);
+        say_items(items, self.style, self.rules, out);
     }
 }

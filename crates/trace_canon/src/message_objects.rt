@@ -5,16 +5,18 @@ ghost use Rattle.trace_canon.specs.MessagesScript.{judged_at, placed_members};
 use crate::message_parts::{FrameExtent, Role};
 use text_parts::say;
 use trace_io::TextSink;
-use trace_text::{HexBytes, Number, Sender, Stamp};
+use trace_text::{Number, RuledBytes, Sender, Stamp};
 use uds_exchange::Judged;
+use uds_rules::Rules;
 
 /// Says the line of a message, from its first frame to its last one, as an object.
 pub(crate) fn say_message_object<S: TextSink>(
+    rules: &Rules,
     message: &Judged<'_>,
     extent: FrameExtent,
     out: &mut S,
 )
-    ensures { S.says out.old (object_line (placed_members (judged_at message.now extent))) out.new }
+    ensures { S.says out.old (object_line (placed_members rules.now (judged_at message.now extent))) out.new }
 {
     say(
         out,
@@ -39,7 +41,14 @@ pub(crate) fn say_message_object<S: TextSink>(
                 "\",\"end\":\"",
                 Stamp(extent.last.micros),
             ),
-            ("\",\"message\":\"", HexBytes(message.bytes), "\"}\n"),
+            (
+                "\",\"message\":\"",
+                RuledBytes {
+                    rules,
+                    message: message.bytes,
+                },
+                "\"}\n",
+            ),
         ),
     );
 }

@@ -16,12 +16,13 @@ use text_parts::say;
 use trace_io::{Source, Target, TextSink};
 use trace_log::{Config, Fault, Summary};
 use trace_run::{Glimpse, Machine, NoAnswer, Seen, run_lenient};
-use trace_text::{HexBytes, Notation, Number, Sender};
+use trace_text::{Notation, Number, RuledBytes, Sender};
 use uds_exchange::Judged;
+use uds_rules::Rules;
 
-/// Reads a log and writes a line for each message that is delivered, as it comes, in words or as an object of JSON: the
-/// number that [`list`](crate::list) gives its item, its role in that item, its direction, the lines and the time
-/// stamps of its first frame and its last one, and its bytes.
+/// Reads a log and writes a line for each message that is delivered and that rules leave, as it comes, in words or as
+/// an object of JSON: the number that [`list`](crate::list) gives its item, its role in that item, its direction, the
+/// lines and the time stamps of its first frame and its last one, and its bytes.
 ///
 /// The target is not flushed.
 pub fn messages<R: Source, W: Target>(
@@ -36,11 +37,12 @@ pub fn messages<R: Source, W: Target>(
 
     // What is answered and written; that it is written before more is read; and what was done with the devices.
     ensures ran { RanLenient R.Source W.Target
-        (command (messages_script notation MESSAGE_LIMIT) says_no_refusal answers_counts needs_none)
+        (command (messages_script notation MESSAGE_LIMIT config.now.rules) says_no_refusal answers_counts needs_none)
         config.now source.old target.old result source.new target.new }
 {
     let machine = Messenger {
         notation,
+        rules: config.rules(),
         starts: ReceptionStarts::start(),
     };
     run_lenient(alloc, config, machine, source, target)
@@ -48,12 +50,13 @@ pub fn messages<R: Source, W: Target>(
 
 /// Says the line of each message. It keeps no message.
 #[derive(Drop)]
-pub(crate) struct Messenger {
+pub(crate) struct Messenger<'a> {
     pub notation: Notation,
+    pub rules: &'a Rules,
     pub starts: ReceptionStarts,
 }
 
-impl Machine for Messenger {
+impl<'a> Machine for Messenger<'a> {
     ghost use Rattle.isotp_receive.specs.declared.TheConstants.{MESSAGE_LIMIT};
     ghost use Rattle.trace_canon.specs.proving.MessageSaying.{SaysMessages};
     ghost use Rattle.trace_canon.specs.MessagesScript.{messages_script};
@@ -61,13 +64,14 @@ impl Machine for Messenger {
 
     type Answer = Summary;
 
-    ghost stands = { λ start T now. SaysMessages start.notation T now.notation now.starts };
+    ghost stands = { λ rules start T now.
+        SaysMessages start.notation rules T now.notation now.rules.now now.starts };
 
-    ghost script = { λ start. messages_script start.notation MESSAGE_LIMIT };
+    ghost script = { λ rules start. messages_script start.notation MESSAGE_LIMIT rules };
 
-    ghost answers = { λ start. answers_counts };
+    ghost answers = { λ rules start. answers_counts };
 
-    ghost needs = { λ start. needs_none };
+    ghost needs = { λ rules start. needs_none };
 
     #[inline(always)]
     fn is_strict(&self) -> bool {
@@ -83,7 +87,7 @@ impl Machine for Messenger {
         let first = self.starts.take(here, seen.dir, seen.event);
         if let Some(message) = seen.message {
             let extent = FrameExtent { first, last: here };
-            say_message(self.notation, &message, extent, out);
+            say_message(self.notation, self.rules, &message, extent, out);
         }
         Ok(())
     }
@@ -109,21 +113,27 @@ impl Machine for Messenger {
 /// Says the line of a message, from its first frame to its last one.
 fn say_message<S: TextSink>(
     notation: Notation,
+    rules: &Rules,
     message: &Judged<'_>,
     extent: FrameExtent,
     out: &mut S,
 )
-    ensures { S.says out.old (placed_text notation (judged_at message.now extent)) out.new }
+    ensures { S.says out.old (placed_text notation rules.now (judged_at message.now extent)) out.new }
 {
     match notation {
-        Notation::Text => say_message_line(message, extent, out),
-        Notation::Json => say_message_object(message, extent, out),
+        Notation::Text => say_message_line(rules, message, extent, out),
+        Notation::Json => say_message_object(rules, message, extent, out),
     }
 }
 
 /// Says the line of a message in words.
-fn say_message_line<S: TextSink>(message: &Judged<'_>, extent: FrameExtent, out: &mut S)
-    ensures { S.says out.old (placed_line (judged_at message.now extent)) out.new }
+fn say_message_line<S: TextSink>(
+    rules: &Rules,
+    message: &Judged<'_>,
+    extent: FrameExtent,
+    out: &mut S,
+)
+    ensures { S.says out.old (placed_line rules.now (judged_at message.now extent)) out.new }
 {
     say(
         out,
@@ -135,7 +145,10 @@ fn say_message_line<S: TextSink>(message: &Judged<'_>, extent: FrameExtent, out:
             Sender(message.dir),
             extent,
             " ",
-            HexBytes(message.bytes),
+            RuledBytes {
+                rules,
+                message: message.bytes,
+            },
             "\n",
         ),
     );

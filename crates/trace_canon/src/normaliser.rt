@@ -1,17 +1,18 @@
-//! `normalise`: a machine that says the canonical log. No other command writes one: so what it promises is no record
-//! that several commands share, but stands clause by clause at its call.
+//! `normalise`: a machine that says the canonical log. No other command writes one: so what it promises of that is no
+//! record that several commands share, but stands clause by clause at its call.
 ghost use Rattle.std.specs.Prelude.{◌≡◌, ◌++◌, ℕ, List, OnOk, IfOk, Err};
 ghost use Rattle.direction.specs.Dir.{Message};
+ghost use Rattle.trace_io.specs.Counted.{IsLowCount};
 ghost use Rattle.isotp_receive.specs.declared.TheConstants.{MESSAGE_LIMIT};
+ghost use Rattle.uds_rules.specs.Under.{under};
 ghost use Rattle.uds_exchange.specs.Meaning.{meaning, flattened};
 ghost use Rattle.trace_log.specs.Answers.{Answers, WritesEagerly};
 ghost use Rattle.trace_log.specs.CanonicalLog.{canonical_log, canonical_log_of_lines};
-ghost use Rattle.trace_log.specs.Devices.{AgreesWith, bytes_given, ReadFrom, WroteTo, HasLowCounts};
-ghost use Rattle.trace_log.specs.Needing.{HasTextOf};
-ghost use Rattle.trace_canon.specs.WaysOfReading.{NeedsMemoryWhere, StopsNear, reading_to_order};
-ghost use Rattle.trace_log.specs.declared.fault.Fault.TheVariants.{Memory, Write};
+ghost use Rattle.trace_log.specs.Devices.{AgreesWith, bytes_given, WroteTo, HasLowCounts};
 ghost use Rattle.trace_log.specs.Laws.{IsCanonicalFor, Records, Certifies};
-ghost use Rattle.trace_io.specs.Counted.{IsLowCount};
+ghost use Rattle.trace_log.specs.Needing.{HasTextOf};
+ghost use Rattle.trace_log.specs.declared.fault.Fault.TheVariants.{Write};
+ghost use Rattle.trace_canon.specs.WaysOfReading.{ReadInThisWay, reading_to_order};
 
 use crate::canonical_sink::{say_due, say_held};
 use crate::progress::Progress;
@@ -44,64 +45,63 @@ pub fn normalise<R: Source, W: Target>(
         → WritesEagerly MESSAGE_LIMIT config.now log (bytes_given R.Source source.old source.new)
         (W.taken target.old) (W.taken target.new) }
 
-    // For who reads what is written instead of the log: it is accepted, is its own canonical log, and has the meaning
-    // of the log.
+    // For who reads what is written instead of the log: it is accepted, is its own canonical log, under the rules and
+    // without them, and has the meaning of the log.
     ensures again { (log : List ℕ) → AgreesWith R.Source source.old source.new log
         → OnOk result ((text : List ℕ) → W.taken target.new ≡ W.taken target.old ++ text
         → IsCanonicalFor MESSAGE_LIMIT config.now log text) }
 
-    // For a recording of messages their meaning's canonical log is written; and a summary that counts nothing dropped,
-    // ended or unfinished certifies that the log is one.
+    // For a recording of messages the canonical log of their meaning under the rules is written; and a summary that
+    // counts nothing dropped, ended or unfinished certifies that the log is one.
     ensures recording { (log : List ℕ) → AgreesWith R.Source source.old source.new log
         → OnOk result ((M : List Message) → Records MESSAGE_LIMIT config.now log M
-        → W.taken target.new ≡ W.taken target.old ++ canonical_log MESSAGE_LIMIT config.now (flattened (meaning M))) }
+        → W.taken target.new ≡ W.taken target.old
+        ++ canonical_log MESSAGE_LIMIT config.now (flattened (meaning (under config.now.rules M)))) }
     ensures certificate { (log : List ℕ) → AgreesWith R.Source source.old source.new log
         → IfOk result (λ summary. Certifies MESSAGE_LIMIT config.now log summary) }
 
     // How the log was read: reading stops within one piece of what refuses it, and memory is refused only for a log
-    // that needs some, for a message of several frames or for one that is held.
-    ensures near { StopsNear R.Source (reading_to_order MESSAGE_LIMIT config.now) source.old source.new }
-    ensures memory { NeedsMemoryWhere R.Source (reading_to_order MESSAGE_LIMIT config.now) source.old source.new
-        (result ≡ Err Memory) }
+    // that needs some, for a message of several frames, for one that is masked, or for one that is held.
+    ensures way { ReadInThisWay R.Source (reading_to_order MESSAGE_LIMIT config.now) source.old result source.new }
 
     // Writing fails only where the lines read have a canonical line.
     ensures some { (log : List ℕ) → AgreesWith R.Source source.old source.new log
         → result ≡ Err Write → HasTextOf (canonical_log_of_lines MESSAGE_LIMIT config.now) log }
 
-    // What it did with the devices.
-    ensures read { ReadFrom R.Source Fault.Read config.now.max_bytes result source.old source.new }
+    // What it did with the target.
     ensures wrote { WroteTo W.Target Fault.Write result target.old target.new }
 {
     let machine = Normaliser {
         orderer: JudgedOrderer::new(alloc),
         progress: Progress::start(config),
-        config: *config,
+        config,
     };
     run(alloc, config, machine, source, target)
 }
 
 /// Says the canonical lines of the messages, each as soon as all that come before it are known.
 #[derive(Drop)]
-pub(crate) struct Normaliser {
+pub(crate) struct Normaliser<'a> {
     pub orderer: JudgedOrderer,
     pub progress: Progress,
-    pub config: Config,
+    pub config: &'a Config,
 }
 
-impl Machine for Normaliser {
+impl<'a> Machine for Normaliser<'a> {
     ghost use Rattle.isotp_receive.specs.declared.TheConstants.{MESSAGE_LIMIT};
     ghost use Rattle.trace_canon.specs.MemoryNeeded.{CompletesHeld};
     ghost use Rattle.trace_canon.specs.proving.CanonicalScript.{StandsCanonical, answers_canonical, canonical_script};
 
     type Answer = Summary;
 
-    ghost stands = { λ start T now. StandsCanonical start.config T now.orderer now.config now.progress };
+    ghost stands = { λ rules start T now.
+        StandsCanonical rules start.config.now T now.orderer now.config.now now.progress };
 
-    ghost script = { λ start. canonical_script start.config };
+    ghost script = { λ rules start. canonical_script rules start.config.now };
 
-    ghost answers = { λ start. answers_canonical start.config };
+    ghost answers = { λ rules start. answers_canonical rules start.config.now };
 
-    ghost needs = { λ start. CompletesHeld MESSAGE_LIMIT };
+    ghost needs = { λ rules start. CompletesHeld MESSAGE_LIMIT rules };
 
     #[inline(always)]
     fn is_strict(&self) -> bool {
@@ -114,7 +114,7 @@ impl Machine for Normaliser {
             return Ok(());
         };
         say_due(
-            &self.config,
+            self.config,
             &mut self.progress,
             &mut self.orderer,
             message,
@@ -133,7 +133,7 @@ impl Machine for Normaliser {
             mut progress,
             config,
         } = self;
-        say_held(&config, &mut progress, orderer, out);
+        say_held(config, &mut progress, orderer, out);
         if progress.is_full() {
             return Err(NoAnswer::OutputLimit);
         }

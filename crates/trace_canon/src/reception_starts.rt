@@ -58,7 +58,8 @@ impl ReceptionStarts {
             → AreStartsAfter MESSAGE_LIMIT T self.old → CompletesMessage MESSAGE_LIMIT T e
             → result ≡ place_of (first_frame T e) }
         ensures stands { (d : DirValue)
-            → reception_start self.new d ≡ start_after_event d dir (seen_event event.entry) here (reception_start self.old d) }
+            → reception_start self.new d
+            ≡ start_after_event d dir (seen_event event.entry) here (reception_start self.old d) }
         ensures first { result ≡ message_start dir (seen_event event.entry) here (reception_start self.old dir) }
     {
         self.end(event.ended);

@@ -20,6 +20,7 @@ use trace_log::{Config, Fault, Summary};
 use trace_run::{Glimpse, Machine, NoAnswer, Seen, run_lenient};
 use trace_text::{ItemStyle, say_item_line};
 use uds_exchange::{Decider, Item, ItemSink, Judged};
+use uds_rules::Rules;
 
 /// Reads a log and writes the lines of [`list`](crate::list), each as soon as its item is decided: an exchange when its
 /// answer comes or the next request does, and the strays after it then too. What is not decided is written at the end.
@@ -37,7 +38,8 @@ pub fn watch<R: Source, W: Target>(
 
     // What is answered and written; that it is written before more is read; and what was done with the devices.
     ensures ran { RanLenient R.Source W.Target
-        (command (watch_script style MESSAGE_LIMIT) says_no_refusal answers_counts (CompletesKept MESSAGE_LIMIT))
+        (command (watch_script style MESSAGE_LIMIT config.now.rules) says_no_refusal answers_counts
+        (CompletesKept MESSAGE_LIMIT config.now.rules))
         config.now source.old target.old result source.new target.new }
 
     // At the end of the log that is the list of its meaning.
@@ -47,6 +49,7 @@ pub fn watch<R: Source, W: Target>(
     let machine = Watcher {
         decider: Decider::new(alloc),
         style,
+        rules: config.rules(),
         number: 1,
     };
     run_lenient(alloc, config, machine, source, target)
@@ -54,14 +57,15 @@ pub fn watch<R: Source, W: Target>(
 
 /// Says the line of each item as soon as it is decided.
 #[derive(Drop)]
-pub(crate) struct Watcher {
+pub(crate) struct Watcher<'a> {
     pub decider: Decider,
     pub style: ItemStyle,
+    pub rules: &'a Rules,
     /// The number of the next item.
     pub number: u64,
 }
 
-impl Machine for Watcher {
+impl<'a> Machine for Watcher<'a> {
     ghost use Rattle.isotp_receive.specs.declared.TheConstants.{MESSAGE_LIMIT};
     ghost use Rattle.trace_canon.specs.MemoryNeeded.{CompletesKept};
     ghost use Rattle.trace_run.specs.Script.{answers_counts};
@@ -70,13 +74,14 @@ impl Machine for Watcher {
 
     type Answer = Summary;
 
-    ghost stands = { λ start T now. WatchesItems start.style T now.decider now.style now.number };
+    ghost stands = { λ rules start T now.
+        WatchesItems start.style rules T now.decider now.style now.rules.now now.number };
 
-    ghost script = { λ start. watch_script start.style MESSAGE_LIMIT };
+    ghost script = { λ rules start. watch_script start.style MESSAGE_LIMIT rules };
 
-    ghost answers = { λ start. answers_counts };
+    ghost answers = { λ rules start. answers_counts };
 
-    ghost needs = { λ start. CompletesKept MESSAGE_LIMIT };
+    ghost needs = { λ rules start. CompletesKept MESSAGE_LIMIT rules };
 
     #[inline(always)]
     fn is_strict(&self) -> bool {
@@ -90,6 +95,7 @@ impl Machine for Watcher {
         };
         say_decided(
             self.style,
+            self.rules,
             &mut self.number,
             &mut self.decider,
             message,
@@ -106,9 +112,10 @@ impl Machine for Watcher {
         let Watcher {
             decider,
             style,
+            rules,
             mut number,
         } = self;
-        say_undecided(style, &mut number, decider, out);
+        say_undecided(style, rules, &mut number, decider, out);
         Ok(*summary)
     }
 
@@ -127,6 +134,7 @@ pub(crate) struct LineSink<'a, S> {
     pub out: &'a mut S,
     pub number: &'a mut u64,
     pub style: ItemStyle,
+    pub rules: &'a Rules,
 }
 
 impl<'a, S: TextSink> ItemSink for LineSink<'a, S> {
@@ -135,7 +143,7 @@ impl<'a, S: TextSink> ItemSink for LineSink<'a, S> {
     ghost takes = { λ s item t. SaysPutItem S.says s item t };
 
     fn put(&mut self, item: Item<'_>) {
-        say_item_line(*self.number, self.style, item, self.out);
+        say_item_line(*self.number, self.style, self.rules, item, self.out);
         *self.number = self.number.saturating_add(1);
     }
 }
@@ -143,6 +151,7 @@ impl<'a, S: TextSink> ItemSink for LineSink<'a, S> {
 /// Takes one more message, and says the lines of all items that are now decided.
 fn say_decided<S: TextSink>(
     style: ItemStyle,
+    rules: &Rules,
     number: &mut u64,
     decider: &mut Decider,
     message: Judged<'_>,
@@ -151,20 +160,36 @@ fn say_decided<S: TextSink>(
     ensures stands { OnOk result ((M : List Message) → decider.old ≡ decider_after M → IsJudgedAfter M message.entry
         → decider.new ≡ decider_after (M ++ sent message.entry ∷ [])) }
     ensures says { OnOk result ((M : List Message) → decider.old ≡ decider_after M → IsJudgedAfter M message.entry
-        → SaysDecided S.says style M (sent message.entry) number.old out.old number.new out.new) }
+        → SaysDecided S.says rules.now style M (sent message.entry) number.old out.old number.new out.new) }
     ensures needs { OnErr result ((M : List Message) → decider.old ≡ decider_after M → IsJudgedAfter M message.entry
         → IsKept M (sent message.entry)) }
     ensures err { OnErr result (S.says out.old [] out.new) }
 {
-    let mut sink = LineSink { out, number, style };
+    let mut sink = LineSink {
+        out,
+        number,
+        style,
+        rules,
+    };
     decider.take(message, &mut sink)
 }
 
 /// Says the lines of the items that are not decided.
-fn say_undecided<S: TextSink>(style: ItemStyle, number: &mut u64, decider: Decider, out: &mut S)
+fn say_undecided<S: TextSink>(
+    style: ItemStyle,
+    rules: &Rules,
+    number: &mut u64,
+    decider: Decider,
+    out: &mut S,
+)
     ensures { (M : List Message) → decider ≡ decider_after M
-        → SaysLines S.says style (undecided M) number.old out.old number.new out.new }
+        → SaysLines S.says rules.now style (undecided M) number.old out.old number.new out.new }
 {
-    let mut sink = LineSink { out, number, style };
+    let mut sink = LineSink {
+        out,
+        number,
+        style,
+        rules,
+    };
     decider.finish(&mut sink);
 }

@@ -11,7 +11,7 @@ use Rattle.uds_difference.specs.declared.row.Row.TheVariants.{Same, Changed, Onl
 use Rattle.uds_difference.proofs.Promises.{first_change_is_first_difference, rows_are_beside}
 use Rattle.shown_rows.specs.Rows.{differs}
 use Rattle.trace_difference.specs.Laws.{NothingIsWrittenOfEqualSessions}
-use Rattle.trace_difference.specs.Unified.{note_text}
+use Rattle.trace_difference.specs.Unified.{note_text, rule_notes}
 
 -- no row is a change where there is no first one
 no-change : (rows : List Row) → first_change rows ≡ None → differs rows ≡ false
@@ -40,21 +40,24 @@ all-same (OnlyRight ∷ rows) xs (y ∷ ys) h e = absurd cc
 all-same _ _ _ h e = absurd h
 
 -- there is something to write where there is a change
-some-text : (shortest : Bool) (bound : ℕ) (header later : List ℕ) → note_text shortest bound ++ (codes "--- " ++ header) ++ later ≡ [] → ⊥
-some-text true bound header later e = absurd cc
-some-text false bound header later e = absurd cc
+some-text : (notes : List ℕ) (shortest : Bool) (bound : ℕ) (header later : List ℕ) → notes ++ note_text shortest bound ++ (codes "--- " ++ header) ++ later ≡ [] → ⊥
+some-text [] true bound header later e = absurd cc
+some-text [] false bound header later e = absurd cc
+some-text (byte ∷ notes) shortest bound header later e = absurd cc
 
 text-or-none : (there : Bool) (text : List ℕ) → (text ≡ [] → ⊥) → (if there then text else []) ≡ [] → there ≡ false
 text-or-none true text some e = absurd (some e)
 text-or-none false text some e = refl
 
 pub nothing_is_written_of_equal_sessions : NothingIsWrittenOfEqualSessions
-nothing_is_written_of_equal_sessions left_name right_name xs ys = (
-  λ equal.
-      let first = subst (λ (l : List ItemValue). IsFirstDifference xs l (first_change (rows_of xs ys))) (sym equal) (first_change_is_first_difference xs ys) in
-      let none = no-change (rows_of xs ys) (no-place xs (first_change (rows_of xs ys)) first) in
-      rw none refl,
-  λ e.
-      all-same (rows_of xs ys) xs ys (rows_are_beside xs ys)
-      (text-or-none (differs (rows_of xs ys)) _ (some-text (is_shortest xs ys) (bound_for (length xs + length ys)) _ _) e),
-)
+nothing_is_written_of_equal_sessions rules left_name right_name left right =
+    let xs = left.meaning in
+    let ys = right.meaning in (
+      λ equal.
+          let first = subst (λ (l : List ItemValue). IsFirstDifference xs l (first_change (rows_of xs ys))) (sym equal) (first_change_is_first_difference xs ys) in
+          let none = no-change (rows_of xs ys) (no-place xs (first_change (rows_of xs ys)) first) in
+          rw none refl,
+      λ e.
+          all-same (rows_of xs ys) xs ys (rows_are_beside xs ys)
+          (text-or-none (differs (rows_of xs ys)) _ (some-text (rule_notes rules left.spoken.items right.spoken.items) (is_shortest xs ys) (bound_for (length xs + length ys)) _ _) e),
+    )

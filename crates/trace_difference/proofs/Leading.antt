@@ -12,6 +12,7 @@ use Rattle.uds_difference.specs.declared.row.Row.TheVariants.{Same, Changed, Onl
 use Rattle.uds_difference.proofs.Promises.{rows_are_beside}
 use Rattle.shown_rows.specs.Hunks.{Hunk, begins_hunk, hunk_length, hunks_behind, rows_to_last_change}
 use Rattle.shown_rows.specs.Rows.{changes_within, context, is_change, left_count, left_in, right_count, right_in}
+use Rattle.uds_rules.specs.Rule.{RuleValue}
 use Rattle.trace_difference.specs.Laws.{HunksLeadToTheRight, Leads, new_lines, old_lines}
 use Rattle.trace_difference.specs.Lines.{Line, added, behind_removed, kept, line_at, lines_of, listed, removed}
 
@@ -39,8 +40,8 @@ drop-on (x ∷ xs) (suc i) n = let e : suc i + n ≡ suc (i + n) = omega arith i
 drop-one : {X : Type 0} (x : X) (xs : List X) (n : ℕ) → drop (1 + n) (x ∷ xs) ≡ drop n xs
 drop-one x xs n = let e : 1 + n ≡ suc n = omega arith in rw e refl
 
-line-is : (xs : List ItemValue) (i : ℕ) (x : ItemValue) (us : List ItemValue) → drop i xs ≡ x ∷ us → line_at xs i ≡ listed x
-line-is xs i x us e = ap (λ (item : Option ItemValue). text_if_some listed item) (first-there xs i x us e)
+line-is : (rules : List RuleValue) (xs : List ItemValue) (i : ℕ) (x : ItemValue) (us : List ItemValue) → drop i xs ≡ x ∷ us → line_at rules xs i ≡ listed rules x
+line-is rules xs i x us e = ap (λ (item : Option ItemValue). text_if_some (listed rules) item) (first-there xs i x us e)
 
 -- ---- what an added line changes
 
@@ -58,13 +59,13 @@ new-behind text ((removed, other) ∷ lines) = new-behind text lines
 
 -- ---- the rows in front of others
 
-module _ (xs ys : List ItemValue) where
+module _ (rules : List RuleValue) (xs ys : List ItemValue) where
   -- what the lines of some rows have of both lists, and what is left behind them
   record Front (rows later : List Row) (i j : ℕ) (us vs : List ItemValue) : Type 0 where
-    old : map listed us ≡ old_lines (lines_of xs ys i j rows) ++ map listed (drop (left_count rows) us)
-    new : map listed vs ≡ new_lines (lines_of xs ys i j rows) ++ map listed (drop (right_count rows) vs)
-    left_many : left_count rows ≡ length (old_lines (lines_of xs ys i j rows))
-    right_many : right_count rows ≡ length (new_lines (lines_of xs ys i j rows))
+    old : map (listed rules) us ≡ old_lines (lines_of rules xs ys i j rows) ++ map (listed rules) (drop (left_count rows) us)
+    new : map (listed rules) vs ≡ new_lines (lines_of rules xs ys i j rows) ++ map (listed rules) (drop (right_count rows) vs)
+    left_many : left_count rows ≡ length (old_lines (lines_of rules xs ys i j rows))
+    right_many : right_count rows ≡ length (new_lines (lines_of rules xs ys i j rows))
     rest : AreBeside later (drop (left_count rows) us) (drop (right_count rows) vs)
 
   front : (rows later : List Row) (i j : ℕ) (us vs : List ItemValue) → AreBeside (rows ++ later) us vs → drop i xs ≡ us → drop j ys ≡ vs
@@ -72,29 +73,29 @@ module _ (xs ys : List ItemValue) where
   front [] later i j us vs h left right = record { old = refl; new = refl; left_many = refl; right_many = refl; rest = h }
   front (Same ∷ rows) later i j (x ∷ us) (y ∷ vs) h left right =
       let more = front rows later (i + 1) (j + 1) us vs h.1 (drop-next xs i x us left) (drop-next ys j y vs right) in
-      let line = line-is xs i x us left in
+      let line = line-is rules xs i x us left in
       record {
-        old = rw (line, drop-one x us (left_count rows)) (ap (λ (l : List (List ℕ)). listed x ∷ l) more.old);
-        new = rw (line, drop-one y vs (right_count rows), h.0) (ap (λ (l : List (List ℕ)). listed y ∷ l) more.new);
+        old = rw (line, drop-one x us (left_count rows)) (ap (λ (l : List (List ℕ)). listed rules x ∷ l) more.old);
+        new = rw (line, drop-one y vs (right_count rows), h.0) (ap (λ (l : List (List ℕ)). listed rules y ∷ l) more.new);
         left_many = let e = more.left_many in omega arith;
         right_many = let e = more.right_many in omega arith;
         rest = rw (drop-one x us (left_count rows), drop-one y vs (right_count rows)) more.rest;
       }
   front (Changed ∷ rows) later i j (x ∷ us) (y ∷ vs) h left right =
       let more = front rows later (i + 1) (j + 1) us vs h.2 (drop-next xs i x us left) (drop-next ys j y vs right) in
-      let lines = lines_of xs ys (i + 1) (j + 1) rows in
+      let lines = lines_of rules xs ys (i + 1) (j + 1) rows in
       record {
-        old = rw (line-is xs i x us left, old-behind (line_at ys j) lines, drop-one x us (left_count rows)) (ap (λ (l : List (List ℕ)). listed x ∷ l) more.old);
-        new = rw (new-behind (line_at ys j) lines, line-is ys j y vs right, drop-one y vs (right_count rows)) (ap (λ (l : List (List ℕ)). listed y ∷ l) more.new);
-        left_many = rw (old-behind (line_at ys j) lines) (let e = more.left_many in omega arith);
-        right_many = rw (new-behind (line_at ys j) lines) (let e = more.right_many in omega arith);
+        old = rw (line-is rules xs i x us left, old-behind (line_at rules ys j) lines, drop-one x us (left_count rows)) (ap (λ (l : List (List ℕ)). listed rules x ∷ l) more.old);
+        new = rw (new-behind (line_at rules ys j) lines, line-is rules ys j y vs right, drop-one y vs (right_count rows)) (ap (λ (l : List (List ℕ)). listed rules y ∷ l) more.new);
+        left_many = rw (old-behind (line_at rules ys j) lines) (let e = more.left_many in omega arith);
+        right_many = rw (new-behind (line_at rules ys j) lines) (let e = more.right_many in omega arith);
         rest = rw (drop-one x us (left_count rows), drop-one y vs (right_count rows)) more.rest;
       }
   front (OnlyLeft ∷ rows) later i j (x ∷ us) vs h left right =
       let more = front rows later (i + 1) j us vs h (drop-next xs i x us left) right in
       let none-right : 0 + right_count rows ≡ right_count rows = omega arith in
       record {
-        old = rw (line-is xs i x us left, drop-one x us (left_count rows)) (ap (λ (l : List (List ℕ)). listed x ∷ l) more.old);
+        old = rw (line-is rules xs i x us left, drop-one x us (left_count rows)) (ap (λ (l : List (List ℕ)). listed rules x ∷ l) more.old);
         new = rw none-right more.new;
         left_many = let e = more.left_many in omega arith;
         right_many = rw none-right more.right_many;
@@ -103,12 +104,12 @@ module _ (xs ys : List ItemValue) where
   front (OnlyRight ∷ rows) later i j us (y ∷ vs) h left right =
       let more = front rows later i (j + 1) us vs h left (drop-next ys j y vs right) in
       let none-left : 0 + left_count rows ≡ left_count rows = omega arith in
-      let lines = lines_of xs ys i (j + 1) rows in
+      let lines = lines_of rules xs ys i (j + 1) rows in
       record {
-        old = rw (old-behind (line_at ys j) lines, none-left) more.old;
-        new = rw (new-behind (line_at ys j) lines, line-is ys j y vs right, drop-one y vs (right_count rows)) (ap (λ (l : List (List ℕ)). listed y ∷ l) more.new);
-        left_many = rw (old-behind (line_at ys j) lines, none-left) more.left_many;
-        right_many = rw (new-behind (line_at ys j) lines) (let e = more.right_many in omega arith);
+        old = rw (old-behind (line_at rules ys j) lines, none-left) more.old;
+        new = rw (new-behind (line_at rules ys j) lines, line-is rules ys j y vs right, drop-one y vs (right_count rows)) (ap (λ (l : List (List ℕ)). listed rules y ∷ l) more.new);
+        left_many = rw (old-behind (line_at rules ys j) lines, none-left) more.left_many;
+        right_many = rw (new-behind (line_at rules ys j) lines) (let e = more.right_many in omega arith);
         rest = rw (none-left, drop-one y vs (right_count rows)) more.rest;
       }
   front _ later i j _ _ h left right = absurd h
@@ -126,8 +127,8 @@ module _ (xs ys : List ItemValue) where
       passed shown (i + left_in row) (j + right_in row) rows ∙ ap₂ (λ (n m : ℕ). hunks_behind 0 n m (drop shown rows)) one other
 
   -- one more line that both have in front
-  one-alike : (hunks : List Hunk) (i j : ℕ) (line : List ℕ) (one other : List (List ℕ)) → Leads xs ys hunks (i + 1) (j + 1) one other
-      → Leads xs ys hunks i j (line ∷ one) (line ∷ other)
+  one-alike : (hunks : List Hunk) (i j : ℕ) (line : List ℕ) (one other : List (List ℕ)) → Leads rules xs ys hunks (i + 1) (j + 1) one other
+      → Leads rules xs ys hunks i j (line ∷ one) (line ∷ other)
   one-alike [] i j line one other h = ap (λ (l : List (List ℕ)). line ∷ l) h
   one-alike (hunk ∷ hunks) i j line one other h =
       let (one_rest, other_rest, applies, later) = h in (
@@ -164,14 +165,14 @@ module _ (xs ys : List ItemValue) where
   abbrev LeadWithin : ℕ → Type 0
   LeadWithin most =
       (rows : List Row) (i j : ℕ) (us vs : List ItemValue) → length rows ≤ most → AreBeside rows us vs → drop i xs ≡ us → drop j ys ≡ vs
-      → Leads xs ys (hunks_behind 0 i j rows) i j (map listed us) (map listed vs)
+      → Leads rules xs ys (hunks_behind 0 i j rows) i j (map (listed rules) us) (map (listed rules) vs)
 
   far-row : (most : ℕ) → LeadWithin most → (row : Row) (rows : List Row) (i j : ℕ) (us vs : List ItemValue) → length rows ≤ most
       → is_change row ≡ false → AreBeside (row ∷ rows) us vs → drop i xs ≡ us → drop j ys ≡ vs
-      → Leads xs ys (hunks_behind 0 (i + left_in row) (j + right_in row) rows) i j (map listed us) (map listed vs)
+      → Leads rules xs ys (hunks_behind 0 (i + left_in row) (j + right_in row) rows) i j (map (listed rules) us) (map (listed rules) vs)
   far-row most more Same rows i j (x ∷ us) (y ∷ vs) short same h left right =
       rw h.0
-      (one-alike (hunks_behind 0 (i + 1) (j + 1) rows) i j (listed y) (map listed us) (map listed vs)
+      (one-alike (hunks_behind 0 (i + 1) (j + 1) rows) i j (listed rules y) (map (listed rules) us) (map (listed rules) vs)
       (more rows (i + 1) (j + 1) us vs short h.1 (drop-next xs i x us left) (drop-next ys j y vs right)))
   far-row most more Same rows i j [] vs short same h left right = absurd h
   far-row most more Same rows i j (x ∷ us) [] short same h left right = absurd h
@@ -181,10 +182,10 @@ module _ (xs ys : List ItemValue) where
 
   near-row : (most : ℕ) → LeadWithin most → (row : Row) (rows : List Row) (i j : ℕ) (us vs : List ItemValue) → length rows ≤ most
       → AreBeside (row ∷ rows) us vs → drop i xs ≡ us → drop j ys ≡ vs
-      → Leads xs ys
+      → Leads rules xs ys
       (record { left = i; right = j; rows = take (hunk_length (row ∷ rows)) (row ∷ rows) }
       ∷ hunks_behind (hunk_length (row ∷ rows) - 1) (i + left_in row) (j + right_in row) rows)
-      i j (map listed us) (map listed vs)
+      i j (map (listed rules) us) (map (listed rules) vs)
   near-row most more row rows i j us vs short h left right =
       let n = hunk_length (row ∷ rows) in
       let first = take n (row ∷ rows) in
@@ -195,8 +196,8 @@ module _ (xs ys : List ItemValue) where
       let less : length later ≤ most = omega arith in
       let on : drop (i + left_count first) xs ≡ drop (left_count first) us = drop-on xs i (left_count first) ∙ ap (drop (left_count first)) left in
       let off : drop (j + right_count first) ys ≡ drop (right_count first) vs = drop-on ys j (right_count first) ∙ ap (drop (right_count first)) right in (
-        map listed (drop (left_count first) us),
-        map listed (drop (right_count first) vs),
+        map (listed rules) (drop (left_count first) us),
+        map (listed rules) (drop (right_count first) vs),
         record {
           alike = [];
           left_is = omega arith;
@@ -227,4 +228,5 @@ module _ (xs ys : List ItemValue) where
       unchanged OnlyRight later e = e
 
 pub hunks_lead_to_the_right : HunksLeadToTheRight
-hunks_lead_to_the_right xs ys = lead xs ys (length (rows_of xs ys)) (rows_of xs ys) 0 0 xs ys (omega arith) (rows_are_beside xs ys) refl refl
+hunks_lead_to_the_right rules xs ys =
+    lead rules xs ys (length (rows_of xs ys)) (rows_of xs ys) 0 0 xs ys (omega arith) (rows_are_beside xs ys) refl refl

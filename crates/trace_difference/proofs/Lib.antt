@@ -1,11 +1,11 @@
 pub mod LineSteps
 pub mod HunkSteps
-pub mod LineTurns
-pub mod HunkTurns
+pub mod LinesLeft
+pub mod HunksLeft
 pub mod ObjectTexts
-pub mod ObjectTurns
+pub mod ObjectsLeft
 pub mod Leading
 pub mod EqualSessions
 pub mod ListedLines
-pub mod InMemories
+pub mod DifferencesInMemory
 pub mod Promises

@@ -18,8 +18,8 @@ is_plain_name name = not (length name == 0) && list_all is_plain name
 abbrev pub octal_digit : ℕ → ℕ
 octal_digit n = code "0" + n
 
--- a byte between quotes, as C has it: a backslash before a quote and a backslash, and three octal digits behind one in place
--- of a byte that is not printable
+-- a byte between quotes, as C has it: a backslash before a quote and a backslash, and three octal digits behind one in
+-- place of a byte that is not printable
 abbrev pub escaped : ℕ → List ℕ
 escaped b =
     if b == code "\"" || b == code "\\" then code "\\" ∷ b ∷ []
@@ -30,6 +30,7 @@ escaped b =
 abbrev pub quoted : List ℕ → List ℕ
 quoted name = codes "\"" ++ flat_map escaped name ++ codes "\""
 
--- A name as it is where it is plain, and else between quotes: so no byte of it begins a line or reaches a terminal as it is.
+-- A name as it is where it is plain, and else between quotes: so no byte of it begins a line or reaches a terminal as
+-- it is.
 abbrev pub label : List ℕ → List ℕ
 label name = if is_plain_name name then name else quoted name

@@ -8,6 +8,8 @@ use Rattle.trace_text.specs.Json as json
 use Rattle.trace_text.specs.ItemLines.{item_object}
 use Rattle.trace_text.specs.declared.item_style.Numbering.TheVariants.{Hidden}
 use Rattle.shown_rows.specs.Rows.{count_of, is_change, left_in, right_in}
+use Rattle.uds_rules.specs.Rule.{RuleValue}
+use Rattle.trace_canon.specs.declared.collector.Session.{Session}
 
 -- what becomes of the item of a row
 abbrev pub change_word : Row → List ℕ
@@ -16,36 +18,37 @@ change_word Changed = codes "changed"
 change_word OnlyLeft = codes "removed"
 change_word OnlyRight = codes "added"
 
--- the object that `list` has for an item without numbers, or null
-abbrev pub listed_value : Option ItemValue → Value
-listed_value (Some item) = json.object (item_object Hidden 0 item)
-listed_value None = json.null
+-- the object that `list` has under rules for an item without numbers, or null
+abbrev pub listed_value : List RuleValue → Option ItemValue → Value
+listed_value rules (Some item) = json.object (item_object rules Hidden 0 item)
+listed_value rules None = json.null
 
 -- what a row has of the left list, where it stands at this place of that
-abbrev pub left_value : List ItemValue → ℕ → Row → Value
-left_value xs i Same = listed_value (slice_get xs i)
-left_value xs i Changed = listed_value (slice_get xs i)
-left_value xs i OnlyLeft = listed_value (slice_get xs i)
-left_value xs i OnlyRight = json.null
+abbrev pub left_value : List RuleValue → List ItemValue → ℕ → Row → Value
+left_value rules xs i Same = listed_value rules (slice_get xs i)
+left_value rules xs i Changed = listed_value rules (slice_get xs i)
+left_value rules xs i OnlyLeft = listed_value rules (slice_get xs i)
+left_value rules xs i OnlyRight = json.null
 
 -- and of the right one
-abbrev pub right_value : List ItemValue → ℕ → Row → Value
-right_value ys j Same = listed_value (slice_get ys j)
-right_value ys j Changed = listed_value (slice_get ys j)
-right_value ys j OnlyLeft = json.null
-right_value ys j OnlyRight = listed_value (slice_get ys j)
+abbrev pub right_value : List RuleValue → List ItemValue → ℕ → Row → Value
+right_value rules ys j Same = listed_value rules (slice_get ys j)
+right_value rules ys j Changed = listed_value rules (slice_get ys j)
+right_value rules ys j OnlyLeft = json.null
+right_value rules ys j OnlyRight = listed_value rules (slice_get ys j)
 
--- A row: the number of its change, what becomes of its item, and of both sides the number of its item, or of the one in front
--- of it where it has none.
-abbrev pub row_members : List ItemValue → List ItemValue → ℕ → ℕ → ℕ → Row → Members
-row_members xs ys change_number i j row =
+-- A row: the number of its change, what becomes of its item, and of both sides the number of its item, or of the one in
+-- front of it where it has none.
+abbrev pub row_members : List RuleValue → List ItemValue → List ItemValue → ℕ → ℕ → ℕ → Row → Members
+row_members rules xs ys change_number i j row =
     member (codes "place") (json.number change_number) (member (codes "change") (json.string (change_word row))
     (member (codes "left_item") (json.number (i + left_in row)) (member (codes "right_item") (json.number (j + right_in row))
-    (member (codes "left") (left_value xs i row) (member (codes "right") (right_value ys j row) nothing)))))
+    (member (codes "left") (left_value rules xs i row) (member (codes "right") (right_value rules ys j row) nothing)))))
 
 -- its line, where it is a change
-abbrev pub row_text : List ItemValue → List ItemValue → ℕ → ℕ → ℕ → Row → List ℕ
-row_text xs ys change_number i j row = if is_change row then object_line (row_members xs ys change_number i j row) else []
+abbrev pub row_text : List RuleValue → List ItemValue → List ItemValue → ℕ → ℕ → ℕ → Row → List ℕ
+row_text rules xs ys change_number i j row =
+    if is_change row then object_line (row_members rules xs ys change_number i j row) else []
 
 -- The number of the last change up to a row, by that of the last one in front of it, and whether the row in front is a
 -- change: such rows that follow one another have one number, as they are at one place.
@@ -53,19 +56,26 @@ abbrev pub next_change_number : ℕ → Bool → Row → ℕ
 next_change_number change_number behind_change row = if is_change row && not behind_change then change_number + 1 else change_number
 
 -- the lines of rows, whose first one stands at these places of both lists
-abbrev pub rows_text : List ItemValue → List ItemValue → ℕ → Bool → ℕ → ℕ → List Row → List ℕ
-rows_text xs ys change_number behind_change i j [] = []
-rows_text xs ys change_number behind_change i j (row ∷ rows) =
-    row_text xs ys (next_change_number change_number behind_change row) i j row
-    ++ rows_text xs ys (next_change_number change_number behind_change row) (is_change row) (i + left_in row) (j + right_in row) rows
+abbrev pub rows_text : List RuleValue → List ItemValue → List ItemValue → ℕ → Bool → ℕ → ℕ → List Row → List ℕ
+rows_text rules xs ys change_number behind_change i j [] = []
+rows_text rules xs ys change_number behind_change i j (row ∷ rows) =
+    row_text rules xs ys (next_change_number change_number behind_change row) i j row
+    ++ rows_text rules xs ys (next_change_number change_number behind_change row) (is_change row) (i + left_in row) (j + right_in row) rows
 
--- the counts, and whether the script of equal items is known to be a shortest one
-abbrev pub count_members : Bool → List Row → Members
-count_members shortest rows =
+-- how many messages the rules left out of both logs, where there are rules
+abbrev pub left_out_members : List RuleValue → ℕ → ℕ → Members
+left_out_members [] left right = nothing
+left_out_members (rule ∷ rules) left right = member (codes "left_out") (json.pair left right) nothing
+
+-- the counts, whether the script of equal items is known to be a shortest one, and what rules left out
+abbrev pub count_members : List RuleValue → Bool → List Row → ℕ → ℕ → Members
+count_members rules shortest rows left_out right_out =
     member (codes "same") (json.number (count_of Same rows)) (member (codes "removed") (json.number (count_of OnlyLeft rows))
     (member (codes "added") (json.number (count_of OnlyRight rows)) (member (codes "changed") (json.number (count_of Changed rows))
-    (member (codes "shortest") (json.truth shortest) nothing))))
+    (member (codes "shortest") (json.truth shortest) (left_out_members rules left_out right_out)))))
 
 -- the objects of all rows of two sessions
-abbrev pub objects_text : Bool → List Row → List ItemValue → List ItemValue → List ℕ
-objects_text shortest rows xs ys = rows_text xs ys 0 false 0 0 rows ++ object_line (count_members shortest rows)
+abbrev pub objects_text : List RuleValue → Bool → List Row → Session → Session → List ℕ
+objects_text rules shortest rows left right =
+    rows_text rules left.meaning right.meaning 0 false 0 0 rows
+    ++ object_line (count_members rules shortest rows left.summary.left_out right.summary.left_out)

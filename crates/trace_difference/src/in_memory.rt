@@ -12,6 +12,7 @@ use trace_io::{Bytes, Writing};
 use trace_log::{CompareFault, Config, Fault};
 use trace_text::Notation;
 use uds_difference::Difference;
+use uds_rules::Rules;
 
 /// The text of where two logs differ, how they compare, and the counts of each.
 #[derive(Debug, Drop)]
@@ -35,7 +36,14 @@ pub fn pair_difference(
 {
     let answer = compare_both(alloc, config, left, right);
     match &answer {
-        Ok(compared) => match text_of(alloc, notation, left_name, right_name, compared) {
+        Ok(compared) => match text_of(
+            alloc,
+            notation,
+            left_name,
+            right_name,
+            config.rules(),
+            compared,
+        ) {
             Ok(text) => Ok(CountedDifference {
                 text,
                 counted: counted_comparison(compared),
@@ -64,21 +72,23 @@ fn text_of(
     notation: Notation,
     left_name: &[u8],
     right_name: &[u8],
+    rules: &Rules,
     compared: &Compared,
 ) -> Result<Vec<u8>, AllocError>
-    ensures text { IfOk result (λ text. text.items ≡ difference_text notation left_name.now right_name.now compared.now.left.meaning compared.now.right.meaning) }
+    ensures text { IfOk result (λ text. text.items ≡ difference_text rules.now notation left_name.now right_name.now
+        compared.now.left compared.now.right) }
     ensures refused { IfErr result (λ refused. NeedsMemoryForText notation compared.now) }
 {
     let left = NamedSession {
         name: left_name,
-        items: &compared.left.meaning,
+        session: &compared.left,
     };
     let right = NamedSession {
         name: right_name,
-        items: &compared.right.meaning,
+        session: &compared.right,
     };
-    let difference = Difference::between(alloc, left.items, right.items)?;
-    gathered(alloc, &difference, left, right, notation)
+    let difference = Difference::between(alloc, &compared.left.meaning, &compared.right.meaning)?;
+    gathered(alloc, &difference, left, right, notation, rules)
 }
 
 /// The text of a difference of two sessions, unless memory for it was refused.
@@ -88,12 +98,17 @@ fn gathered(
     left: NamedSession<'_>,
     right: NamedSession<'_>,
     notation: Notation,
+    rules: &Rules,
 ) -> Result<Vec<u8>, AllocError>
-    ensures text { IfOk result (λ text. text.items ≡ written_rows notation left.entry.name.now right.entry.name.now difference.now.shortest difference.now.rows.items left.entry.items.now right.entry.items.now) }
-    ensures refused { IfErr result (λ refused. 0 < length (written_rows notation left.entry.name.now right.entry.name.now difference.now.shortest difference.now.rows.items left.entry.items.now right.entry.items.now)) }
+    ensures text { IfOk result (λ text. text.items
+        ≡ written_rows rules.now notation left.entry.name.now right.entry.name.now difference.now.shortest
+        difference.now.rows.items left.entry.session.now right.entry.session.now) }
+    ensures refused { IfErr result (λ refused. 0 < length
+        (written_rows rules.now notation left.entry.name.now right.entry.name.now difference.now.shortest
+        difference.now.rows.items left.entry.session.now right.entry.session.now)) }
 {
     let mut writer = Writing::new(Vec::new(alloc));
-    match write_difference(difference, left, right, notation, &mut writer) {
+    match write_difference(difference, left, right, notation, rules, &mut writer) {
         Ok(()) => Ok(writer.into_inner()),
         Err(_fault) => Err(AllocError),
     }

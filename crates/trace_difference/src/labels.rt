@@ -21,6 +21,7 @@ impl<'a> Part for Label<'a> {
     }
 }
 
+/// Says the name of a file: as it is, or between quotes.
 fn say_label<S: TextSink>(name: &[u8], out: &mut S)
     ensures { S.says out.old (label name.now) out.new }
 {

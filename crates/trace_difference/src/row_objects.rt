@@ -13,6 +13,7 @@ use trace_text::values::say_text;
 use trace_text::{Number, Numbering, say_item_object};
 use uds_difference::Row;
 use uds_exchange::Meaning;
+use uds_rules::Rules;
 
 /// Says the objects of all rows of two sessions.
 pub(crate) fn say_objects<S: TextSink>(
@@ -20,17 +21,27 @@ pub(crate) fn say_objects<S: TextSink>(
     left: NamedSession<'_>,
     right: NamedSession<'_>,
     rows: &[Row],
+    rules: &Rules,
     out: &mut S,
 )
-    ensures { S.says out.old (objects_text shortest rows.now left.entry.items.now right.entry.items.now) out.new }
+    ensures { S.says out.old (objects_text rules.now shortest rows.now left.entry.session.now right.entry.session.now) out.new }
 {
-    say_rows(left, right, rows, out);
-    say_row_counts(shortest, rows, out);
+    let left_items = &left.session.meaning;
+    let right_items = &right.session.meaning;
+    say_rows(left_items, right_items, rows, rules, out);
+    say_row_counts(
+        shortest,
+        rows,
+        rules,
+        left.session.summary.left_out,
+        right.session.summary.left_out,
+        out,
+    );
 }
 
 /// Says an object for each row that is a change.
-fn say_rows<S: TextSink>(left: NamedSession<'_>, right: NamedSession<'_>, rows: &[Row], out: &mut S)
-    ensures { S.says out.old (rows_text left.entry.items.now right.entry.items.now 0 false 0 0 rows.now) out.new }
+fn say_rows<S: TextSink>(left: &Meaning, right: &Meaning, rows: &[Row], rules: &Rules, out: &mut S)
+    ensures { S.says out.old (rows_text rules.now left.now right.now 0 false 0 0 rows.now) out.new }
 {
     let mut change_number = 0;
     let mut behind_change = false;
@@ -41,12 +52,13 @@ fn say_rows<S: TextSink>(left: NamedSession<'_>, right: NamedSession<'_>, rows: 
         behind_change = is_change(*row);
         if behind_change {
             say_row(
-                left.items,
-                right.items,
+                left,
+                right,
                 change_number,
                 left_before,
                 right_before,
                 *row,
+                rules,
                 out,
             );
         }
@@ -77,20 +89,22 @@ fn say_row<S: TextSink>(
     left_before: usize,
     right_before: usize,
     row: Row,
+    rules: &Rules,
     out: &mut S,
 )
     requires left_small { left_before < 2 ^ 63 }
     requires right_small { right_before < 2 ^ 63 }
-    ensures { S.says out.old (object_line (row_members left.now right.now change_number left_before right_before row)) out.new }
+    ensures { S.says out.old
+        (object_line (row_members rules.now left.now right.now change_number left_before right_before row)) out.new }
 {
     say_row_front(change_number, left_before, right_before, row, out);
-    say_left(left, left_before, row, out);
+    say_left(left, left_before, row, rules, out);
     say_text(out, ",\"right\":");
-    say_right(right, right_before, row, out);
+    say_right(right, right_before, row, rules, out);
     say_text(out, "}\n");
 }
 
-/// Says it up to what both sides have.
+/// Says the object of a row, up to its items.
 fn say_row_front<S: TextSink>(
     change_number: u64,
     left_before: usize,
@@ -145,38 +159,45 @@ impl Part for ShownChange {
 }
 
 /// Says what a row has of the left session.
-fn say_left<S: TextSink>(items: &Meaning, place: usize, row: Row, out: &mut S)
-    ensures { S.says out.old (value_text (left_value items.now place row)) out.new }
+fn say_left<S: TextSink>(items: &Meaning, place: usize, row: Row, rules: &Rules, out: &mut S)
+    ensures { S.says out.old (value_text (left_value rules.now items.now place row)) out.new }
 {
     match row {
-        Row::Same | Row::Changed | Row::OnlyLeft => say_listed(items, place, out),
+        Row::Same | Row::Changed | Row::OnlyLeft => say_listed(items, place, rules, out),
         Row::OnlyRight => say_text(out, "null"),
     }
 }
 
 /// Says what it has of the right one.
-fn say_right<S: TextSink>(items: &Meaning, place: usize, row: Row, out: &mut S)
-    ensures { S.says out.old (value_text (right_value items.now place row)) out.new }
+fn say_right<S: TextSink>(items: &Meaning, place: usize, row: Row, rules: &Rules, out: &mut S)
+    ensures { S.says out.old (value_text (right_value rules.now items.now place row)) out.new }
 {
     match row {
-        Row::Same | Row::Changed | Row::OnlyRight => say_listed(items, place, out),
+        Row::Same | Row::Changed | Row::OnlyRight => say_listed(items, place, rules, out),
         Row::OnlyLeft => say_text(out, "null"),
     }
 }
 
 /// Says the object of the item at a place, or that there is none.
-fn say_listed<S: TextSink>(items: &Meaning, place: usize, out: &mut S)
-    ensures { S.says out.old (value_text (listed_value (slice_get items.now place))) out.new }
+fn say_listed<S: TextSink>(items: &Meaning, place: usize, rules: &Rules, out: &mut S)
+    ensures { S.says out.old (value_text (listed_value rules.now (slice_get items.now place))) out.new }
 {
     match items.item(place) {
-        Some(item) => say_item_object(0, Numbering::Hidden, item, out),
+        Some(item) => say_item_object(0, Numbering::Hidden, rules, item, out),
         None => say_text(out, "null"),
     }
 }
 
-/// Says the object of the counts.
-fn say_row_counts<S: TextSink>(shortest: bool, rows: &[Row], out: &mut S)
-    ensures { S.says out.old (object_line (count_members shortest rows.now)) out.new }
+/// Says the object of the counts, where the rules left out so many messages of both logs.
+fn say_row_counts<S: TextSink>(
+    shortest: bool,
+    rows: &[Row],
+    rules: &Rules,
+    left_out: u64,
+    right_out: u64,
+    out: &mut S,
+)
+    ensures { S.says out.old (object_line (count_members rules.now shortest rows.now left_out right_out)) out.new }
 {
     let same = count_of(Row::Same, rows);
     let removed = count_of(Row::OnlyLeft, rows);
@@ -194,7 +215,29 @@ fn say_row_counts<S: TextSink>(shortest: bool, rows: &[Row], out: &mut S)
             ",\"changed\":",
             Number(changed as u64),
             ",\"shortest\":",
-            Either(shortest, "true}\n", "false}\n"),
+            Either(shortest, "true", "false"),
+            LeftOut(rules, left_out, right_out),
+            "}\n",
         ),
     );
+}
+
+/// How many messages the rules left out of both logs, behind other members; nothing, where there are none.
+#[derive(Clone, Copy)]
+struct LeftOut<'a>(&'a Rules, u64, u64);
+
+impl<'a> Part for LeftOut<'a> {
+    ghost use Rattle.trace_text.specs.Json.{later_text};
+    ghost use Rattle.trace_difference.specs.Objects.{left_out_members};
+
+    ghost text = { λ out. later_text (left_out_members out.0.now out.1 out.2) };
+
+    fn say<S: TextSink>(self, out: &mut S) {
+        if !self.0.is_empty() {
+            say(
+                out,
+                (",\"left_out\":[", Number(self.1), ",", Number(self.2), "]"),
+            );
+        }
+    }
 }

@@ -6,21 +6,22 @@ ghost use Rattle.trace_difference.specs.Written.{written_rows};
 use crate::row_objects::say_objects;
 use crate::unified_text::say_unified;
 use text_parts::Part;
+use trace_canon::Session;
 use trace_io::{Target, TextSink};
 use trace_log::Fault;
 use trace_run::print;
 use trace_text::Notation;
 use uds_difference::Difference;
-use uds_exchange::Meaning;
+use uds_rules::Rules;
 
 /// A session, and the name of its file.
 #[derive(Clone, Copy)]
 pub struct NamedSession<'a> {
     pub name: &'a [u8],
-    pub items: &'a Meaning,
+    pub session: &'a Session,
 }
 
-/// Writes a difference of two sessions, in this notation.
+/// Writes a difference of two sessions, in this notation; their messages are as these rules left them.
 ///
 /// The target is not flushed.
 pub fn write_difference<W: Target>(
@@ -28,12 +29,16 @@ pub fn write_difference<W: Target>(
     left: NamedSession<'_>,
     right: NamedSession<'_>,
     notation: Notation,
+    rules: &Rules,
     target: &mut W,
 ) -> Result<(), Fault>
     requires { IsLowCount (W.failures target.old) }
 
     // Its text was written, or a front of it where writing failed; and what that did with the target.
-    ensures printed { Prints W.Target (written_rows notation left.entry.name.now right.entry.name.now difference.now.shortest difference.now.rows.items left.entry.items.now right.entry.items.now) target.old result target.new }
+    ensures printed { Prints W.Target
+        (written_rows rules.now notation left.entry.name.now right.entry.name.now difference.now.shortest
+        difference.now.rows.items left.entry.session.now right.entry.session.now)
+        target.old result target.new }
 {
     print(
         DifferenceText {
@@ -41,6 +46,7 @@ pub fn write_difference<W: Target>(
             left,
             right,
             notation,
+            rules,
         },
         target,
     )
@@ -52,13 +58,35 @@ pub fn say_difference<S: TextSink>(
     left: NamedSession<'_>,
     right: NamedSession<'_>,
     notation: Notation,
+    rules: &Rules,
     out: &mut S,
 )
-    ensures { S.says out.old (written_rows notation left.entry.name.now right.entry.name.now difference.now.shortest difference.now.rows.items left.entry.items.now right.entry.items.now) out.new }
+    ensures { S.says out.old
+        (written_rows rules.now notation left.entry.name.now right.entry.name.now difference.now.shortest
+        difference.now.rows.items left.entry.session.now right.entry.session.now)
+        out.new }
 {
     match notation {
-        Notation::Text => say_unified(difference.shortest, left, right, &difference.rows, out),
-        Notation::Json => say_objects(difference.shortest, left, right, &difference.rows, out),
+        Notation::Text => {
+            say_unified(
+                difference.shortest,
+                left,
+                right,
+                &difference.rows,
+                rules,
+                out,
+            )
+        }
+        Notation::Json => {
+            say_objects(
+                difference.shortest,
+                left,
+                right,
+                &difference.rows,
+                rules,
+                out,
+            )
+        }
     }
 }
 
@@ -69,14 +97,23 @@ struct DifferenceText<'a> {
     left: NamedSession<'a>,
     right: NamedSession<'a>,
     notation: Notation,
+    rules: &'a Rules,
 }
 
 impl<'a> Part for DifferenceText<'a> {
     ghost use Rattle.trace_difference.specs.Written.{written_rows};
 
-    ghost text = { λ t. written_rows t.notation t.left.name.now t.right.name.now t.difference.now.shortest t.difference.now.rows.items t.left.items.now t.right.items.now };
+    ghost text = { λ t. written_rows t.rules.now t.notation t.left.name.now t.right.name.now t.difference.now.shortest
+        t.difference.now.rows.items t.left.session.now t.right.session.now };
 
     fn say<S: TextSink>(self, out: &mut S) {
-        say_difference(self.difference, self.left, self.right, self.notation, out);
+        say_difference(
+            self.difference,
+            self.left,
+            self.right,
+            self.notation,
+            self.rules,
+            out,
+        );
     }
 }

@@ -21,6 +21,7 @@ use Rattle.isotp_receive.proofs.Promises.{first_frame_is_read}
 use Rattle.isotp_segment.specs.CanonicalFrames.{canonical_frames}
 use Rattle.isotp_segment.specs.Timed.{all_frames}
 use Rattle.uds_exchange.specs.Meaning.{meaning, flattened}
+use Rattle.uds_rules.specs.Under.{under}
 use Rattle.trace_log.specs.Settings.{Settings, direction_of}
 use Rattle.trace_log.specs.Trace.{trace_from, trace}
 use Rattle.trace_log.specs.Messages.{messages_of_lines}
@@ -29,8 +30,8 @@ use Rattle.trace_log.specs.Refusal.{oversize_by, oversize, EachWithin}
 use Rattle.trace_log.specs.Summing.{summary_of}
 use Rattle.trace_log.specs.Outcome.{IsReadWhole}
 use Rattle.trace_log.specs.Laws.{LargerLimitKeeps}
-use Rattle.trace_log.proofs.Sendable.{IsSendable}
-use Rattle.trace_log.proofs.ReadAgain.{log_sendable, meaning_sendable}
+use Rattle.trace_log.proofs.Sendable.{IsCarried}
+use Rattle.trace_log.proofs.ReadAgain.{log_carried, meaning_carried}
 
 -- each frame announces no length above the limit
 abbrev EachAnnounces : ℕ → List Entry → Type 0
@@ -156,11 +157,11 @@ trace_announces limit line settings (Some stamped ∷ meanings) each =
 
 -- ---- canonical logs
 
-same_frames : (limit larger : ℕ) (M : List Message) → limit ≤ larger → AllByRecursion (IsSendable limit) M → all_frames larger M ≡ all_frames limit M
+same_frames : (limit larger : ℕ) (M : List Message) → limit ≤ larger → AllByRecursion (IsCarried limit) M → all_frames larger M ≡ all_frames limit M
 unfolding canonical_frames
 same_frames limit larger [] more each = refl
 same_frames limit larger (one ∷ later) more each =
-    let fits = each.0.has_frames.fits in
+    let fits = each.0.fits in
     let same = same_test limit larger (length one.1) more (le-leb (length one.1) limit fits) in
     rw (same, same_frames limit larger later more each.1) refl
 
@@ -182,8 +183,8 @@ unfolding canonical_log
 same_log limit larger settings log meanings least more read =
     let M = messages_of_lines limit settings meanings in
     let same : messages_of_lines larger settings meanings ≡ M =
-    same_messages limit larger [] (trace settings meanings) more tt (trace_announces limit 1 settings meanings read.within) in
-    let sent = meaning_sendable limit M (log_sendable limit settings log meanings least read.means) in
+    ap (under settings.rules) (same_messages limit larger [] (trace settings meanings) more tt (trace_announces limit 1 settings meanings read.within)) in
+    let sent = meaning_carried limit M (log_carried limit settings log meanings least read.means) in
     ap (λ x. log_of_frames settings (all_frames larger (flattened (meaning x)))) same
     ∙ ap (log_of_frames settings) (same_frames limit larger (flattened (meaning M)) more sent)
 

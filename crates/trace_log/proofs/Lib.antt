@@ -15,6 +15,9 @@ pub mod ReadLines
 pub mod ScannedLogs
 pub mod Lowest
 pub mod ReadAgain
+pub mod LeftMeanings
+pub mod Certificates
+mod MaskedItems
 pub mod LargerLimits
 pub mod ReadAs
 pub mod StoppedRuns

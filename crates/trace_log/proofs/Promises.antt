@@ -2,13 +2,15 @@
 pub use Rattle.trace_log.proofs.Results.{four_ok, handed_on}
 pub use Rattle.trace_log.proofs.Directions.{foreign_direction}
 pub use Rattle.trace_log.proofs.Traces.{trace_from-append}
-pub use Rattle.trace_log.proofs.OneMoreFrame.{messages_more}
+pub use Rattle.trace_log.proofs.OneMoreFrame.{messages_more, messages_under_more}
 pub use Rattle.trace_log.proofs.Announcements.{announces_kept, each_more, each_within, line_announces}
 pub use Rattle.trace_log.proofs.CanonicalLogs.{canonical_lines-append}
 pub use Rattle.trace_log.proofs.ReadAs.{all_taken}
 pub use Rattle.trace_log.proofs.ReadLines.{lines_read_are_there, read_begins, read_more, stands_read}
 pub use Rattle.trace_log.proofs.Texts.{Begins, all_frames-append, begins_again, fitting_frames, fitting_log_begins, frames_of_one}
-pub use Rattle.trace_log.proofs.ReadAgain.{clean_log_is_recording, clean_summary_is_certificate, summary_certifies, answer_certifies, lines_certify, lines_length, one_meaning, same_meaning_same_text, written_is_canonical, written_of_recording}
+pub use Rattle.trace_log.proofs.ReadAgain.{clean_log_is_recording, clean_summary_is_certificate, summary_certifies, answer_certifies, lines_certify, lines_length, no_rules_change_nothing, one_meaning, same_meaning_same_text, written_is_canonical, written_of_recording}
+pub use Rattle.trace_log.proofs.LeftMeanings.{meaning_holds_bytes, meaning_stays}
+pub use Rattle.trace_log.proofs.Certificates.{certificate_knows_no_rules, certifies_without_rules}
 pub use Rattle.trace_log.proofs.LastBytes.{some_log}
 pub use Rattle.trace_log.proofs.Streams.{given_agrees, when_ok}
 pub use Rattle.trace_log.proofs.ScannedLogs.{IsBadBehind, bad_counts, bad_line, no_place_counts, not_refused_at_limit, read_before_oversize}

@@ -1,7 +1,7 @@
 -- A canonical log, read again.
 use Prim.Native.Nat.{suc}
 use Rattle.std.proofs.Common.{◌≡◌, ℕ, ◌+◌, ◌*◌, ◌^◌, ◌<◌, ◌≤◌, Bool, true, List, [], ◌∷◌, ◌++◌, length, nat_le, nat_lt, arith, refl, ap, sym, subst, ◌∙◌}
-use Rattle.std.proofs.Common.{Some, Option, Ok, length-append}
+use Rattle.std.proofs.Common.{Some, None, Option, Ok, length-append}
 use Rattle.std.proofs.lemmas.List.{append_cancel_left}
 use native.Mathlib.Numerals.{unary_clauses}
 use Rattle.trace_log.specs.declared.summary.Summary.{Summary}
@@ -9,7 +9,7 @@ use Rattle.trace_log.specs.Answers.{Answers}
 use Rattle.std.specs.Prelude.{◌&&◌, ◌==◌, is_none}
 use Rattle.std.specs.List.{AllByRecursion, list_all}
 use Rattle.std.proofs.lemmas.Bool.{le-leb, leb-true, eqb-true, and_parts}
-use Rattle.can_log.specs.Canonical.{canonical_stamped, canonical_line, canonical_length}
+use Rattle.can_log.specs.Canonical.{canonical_stamped, canonical_line, canonical_text, canonical_length}
 use Rattle.direction.specs.Dir.{Message}
 use Rattle.can_log.specs.Frame.{AreBytes, IsCanIdentifier}
 use Rattle.can_log.specs.Log.{log_lines, LinesMean, LogMeans, ended_lines}
@@ -28,18 +28,24 @@ use Rattle.isotp_segment.specs.Timed.{timed, HasFrames, all_frames}
 use Rattle.isotp_segment.proofs.Promises.{canonical_frames_have_eight_bytes, canonical_frames_are_a_recording, canonical_frames_are_clean}
 use Rattle.uds_exchange.specs.Meaning.{ItemValue, meaning, flattened, removed_messages}
 use Rattle.uds_exchange.proofs.Promises.{meaning_is_kept, none_is_lost, none_is_made_up}
-use Rattle.trace_log.specs.Settings.{Settings, AreSettings, id_of}
+use Rattle.uds_rules.specs.Legal.{AreRules}
+use Rattle.uds_rules.specs.Laws.{stays}
+use Rattle.uds_rules.specs.Rule.{RuleValue, made_of}
+use Rattle.uds_rules.specs.Under.{sent_as, under, left_out}
+use Rattle.uds_rules.proofs.Promises.{left_out_are_the_rest, mask_keeps_kind, no_byte_is_added, no_byte_is_made_up, no_rules_keep_all}
+use Rattle.uds_rules.proofs.Promises.{what_is_left_stays, what_stays_is_left}
+use Rattle.trace_log.specs.Settings.{Settings, AreSettings, without_rules, id_of}
 use Rattle.trace_log.specs.Trace.{trace_from, trace}
 use Rattle.trace_log.specs.Messages.{messages_of_lines, meaning_of_lines, HasMeaning}
 use Rattle.trace_log.specs.CanonicalLog.{canonical_lines, lines_size, log_of_frames, canonical_log, canonical_log_of_lines}
 use Rattle.trace_log.specs.Refusal.{oversize, EachWithin}
 use Rattle.trace_log.specs.Summing.{summary_of}
 use Rattle.trace_log.specs.Outcome.{Accepted, IsOutcome}
-use Rattle.trace_log.specs.Laws.{Records, Certifies, IsMessageLimit, IsCleanSummary, IsCanonicalFor, CanonicalIsCanonical, SameMeaningSameText, RecordingHasCanonicalLog}
+use Rattle.trace_log.specs.Laws.{Records, Certifies, IsMessageLimit, IsCleanSummary, IsOwnCanonicalLog, IsCanonicalFor, NoRulesChangeNothing, CanonicalIsCanonical, SameMeaningSameText, RecordingHasCanonicalLog}
 use Rattle.trace_log.specs.Laws.{CanonicalLogLength, CanonicalLogLengthBySides, CleanSummaryIsCertificate, CleanLogIsRecording, SummaryCertifies, PendingAreTheRest}
 use Rattle.trace_log.proofs.Directions.{direction_of_id}
 use Rattle.trace_log.proofs.LogLines.{lines_are_few}
-use Rattle.trace_log.proofs.Sendable.{IsSendable, messages_sendable, trace_of_bytes}
+use Rattle.trace_log.proofs.Sendable.{IsCarried, IsSendable, messages_sendable, trace_of_bytes}
 
 -- ---- the lines of a canonical log
 
@@ -101,41 +107,51 @@ few_frames settings frames =
     let few = lines_are_few (canonical_lines settings 0 frames) in
     omega arith
 
-frames_are_full : (limit : ℕ) (M : List Message) → limit < 2 ^ 32 → AllByRecursion (IsSendable limit) M → AllByRecursion HasEightBytes (all_frames limit M)
+frames_are_full : (limit : ℕ) (M : List Message) → limit < 2 ^ 32 → AllByRecursion (IsCarried limit) M → AllByRecursion HasEightBytes (all_frames limit M)
 frames_are_full limit [] most each = tt
 frames_are_full limit (one ∷ later) most each =
     AllByRecursion-append HasEightBytes (canonical_frames limit one.0 one.1) (all_frames limit later)
     (canonical_frames_have_eight_bytes limit one.0 one.1 most each.0.bytes) (frames_are_full limit later most each.1)
+
+-- messages that have canonical frames are within the limit
+pub all_carried : (limit : ℕ) (M : List Message) → AllByRecursion (IsSendable limit) M → AllByRecursion (IsCarried limit) M
+all_carried limit M each =
+    AllByRecursion-weaker (IsSendable limit) (IsCarried limit) (λ one is. record { fits = is.has_frames.fits; bytes = is.bytes }) M each
 
 -- The canonical log of these messages, where it is within the limit, is read as their canonical frames.
 record ReadsAs (limit : ℕ) (settings : Settings) (text : List ℕ) (M : List Message) : Type 0 where
   meanings : List (Option Stamped)
   means : LogMeans text meanings
   within : EachWithin limit settings meanings
+  delivers : messages limit (trace settings meanings) ≡ M
   same : messages_of_lines limit settings meanings ≡ M
   clean : IsClean limit (trace settings meanings)
 
 reads_again : (limit : ℕ) (settings : Settings) (text : List ℕ) (M : List Message) → IsMessageLimit limit → AreSettings settings
-    → AllByRecursion (IsSendable limit) M → text ≡ canonical_log limit settings M → length text ≤ settings.max_bytes → ReadsAs limit settings text M
+    → AllByRecursion (IsSendable limit) M → under settings.rules M ≡ M → text ≡ canonical_log limit settings M → length text ≤ settings.max_bytes
+    → ReadsAs limit settings text M
 unfolding canonical_log log_of_frames
-reads_again limit settings text M is are each spelled fits =
+reads_again limit settings text M is are each left spelled fits =
     let frames = all_frames limit M in
     let least = is.least in
     let most = is.most in
     let few = few_frames settings frames in
     let len = ap length spelled in
     let limit_few = are.most in
-    let back = canonical_lines_mean settings 0 frames are (frames_are_full limit M most each) (omega arith) in
+    let back = canonical_lines_mean settings 0 frames are (frames_are_full limit M most (all_carried limit M each)) (omega arith) in
     let has_frames = AllByRecursion-weaker (IsSendable limit) (HasFrames limit) (λ x sendable. sendable.has_frames) M each in
     let there = canonical_trace settings 1 0 0 frames are (omega arith) in
     let recording = canonical_frames_are_a_recording limit (id_of settings) 1 0 M most has_frames in
     let clean = canonical_frames_are_clean limit (id_of settings) 1 0 M most has_frames in
+    let delivers : messages limit (trace settings (stamped_from settings 0 frames)) ≡ M =
+    ap (messages limit) there ∙ recording_delivers limit (timed (id_of settings) 1 0 frames) M recording in
     record {
       meanings = stamped_from settings 0 frames;
       means = subst (λ x. LogMeans x (stamped_from settings 0 frames)) (sym spelled)
           (lines_are_log (canonical_lines settings 0 frames) (stamped_from settings 0 frames) back);
       within = canonical_within limit settings 1 0 0 [] frames are clean.each;
-      same = ap (messages limit) there ∙ recording_delivers limit (timed (id_of settings) 1 0 frames) M recording;
+      delivers = delivers;
+      same = ap (under settings.rules) delivers ∙ left;
       clean = subst (IsClean limit) (sym there) clean;
     }
 
@@ -175,11 +191,125 @@ meaning_sendable limit M each =
     AllByRecursion-weaker (λ one. sendable limit one ≡ true) (IsSendable limit) (passes_sendable limit) (flattened (meaning M))
     (AllByRecursion-tested (sendable limit) (flattened (meaning M)) (none_is_made_up (sendable limit) M (all_pass limit M each)))
 
--- the messages of the meaning of a log
-pub log_sendable : (limit : ℕ) (settings : Settings) (log : List ℕ) (meanings : List (Option Stamped)) → 64 ≤ limit → LogMeans log meanings
-    → AllByRecursion (IsSendable limit) (messages_of_lines limit settings meanings)
-log_sendable limit settings log meanings least means =
+-- the same of messages within the limit, of which one may be empty
+abbrev carried : ℕ → Message → Bool
+carried limit one = nat_le (length one.1) limit && list_all (λ b. nat_lt b 256) one.1
+
+passes_carried : (limit : ℕ) (one : Message) → carried limit one ≡ true → IsCarried limit one
+passes_carried limit one passed =
+    let parts = and_parts (nat_le (length one.1) limit) (list_all (λ b. nat_lt b 256) one.1) passed in
+    record { fits = leb-true (length one.1) limit parts.0; bytes = passing_bytes one.1 parts.1 }
+
+all_pass_carried : (limit : ℕ) (M : List Message) → AllByRecursion (IsCarried limit) M → list_all (carried limit) M ≡ true
+all_pass_carried limit [] each = refl
+all_pass_carried limit (one ∷ later) each =
+    rw (le-leb (length one.1) limit each.0.fits, bytes_pass one.1 each.0.bytes, all_pass_carried limit later each.1) refl
+
+pub meaning_carried : (limit : ℕ) (M : List Message) → AllByRecursion (IsCarried limit) M → AllByRecursion (IsCarried limit) (flattened (meaning M))
+meaning_carried limit M each =
+    AllByRecursion-weaker (λ one. carried limit one ≡ true) (IsCarried limit) (passes_carried limit) (flattened (meaning M))
+    (AllByRecursion-tested (carried limit) (flattened (meaning M)) (none_is_made_up (carried limit) M (all_pass_carried limit M each)))
+
+-- ---- messages under rules have canonical frames
+
+-- the bytes of what is made of a message are bytes
+made_bytes : (rules : List RuleValue) (message shown : List ℕ) → made_of rules message ≡ Some shown → AreBytes message → AreBytes shown
+made_bytes rules message shown is bytes =
+    passing_bytes shown (no_byte_is_made_up rules (λ b. nat_lt b 256) refl message shown is (bytes_pass message bytes))
+
+-- one message, of which this was made, in front of others: whatever the rules, it is within the limit
+sent_carried : (limit : ℕ) (rules : List RuleValue) (d : Dir) (message : List ℕ) (made : Option (List ℕ)) (rest : List Message) → made_of rules message ≡ made
+    → IsCarried limit (d, message) → AllByRecursion (IsCarried limit) rest → AllByRecursion (IsCarried limit) (sent_as d made ++ rest)
+sent_carried limit rules d message None rest is one later = later
+sent_carried limit rules d message (Some shown) rest is one later =
+    let fits = one.fits in
+    let most = no_byte_is_added rules message shown is in
+    (record { fits = omega arith; bytes = made_bytes rules message shown is one.bytes }, later)
+
+under_carried : (limit : ℕ) (rules : List RuleValue) (M : List Message) → AllByRecursion (IsCarried limit) M → AllByRecursion (IsCarried limit) (under rules M)
+under_carried limit rules [] each = tt
+under_carried limit rules (one ∷ later) each =
+    sent_carried limit rules one.0 one.1 (made_of rules one.1) (under rules later) refl each.0 (under_carried limit rules later each.1)
+
+-- and where they are those of a profile, it is not empty
+sent_sendable : (limit : ℕ) (rules : List RuleValue) → AreRules rules → (d : Dir) (message : List ℕ) (made : Option (List ℕ)) (rest : List Message)
+    → made_of rules message ≡ made → IsSendable limit (d, message) → AllByRecursion (IsSendable limit) rest
+    → AllByRecursion (IsSendable limit) (sent_as d made ++ rest)
+sent_sendable limit rules are d message None rest is one later = later
+sent_sendable limit rules are d message (Some shown) rest is one later =
+    let fits = one.has_frames.fits in
+    let kind = mask_keeps_kind rules are message shown is in
+    let most = kind.most in
+    let some = kind.some one.has_frames.some in
+    (record { has_frames = record { some = some; fits = omega arith }; bytes = made_bytes rules message shown is one.bytes }, later)
+
+under_sendable : (limit : ℕ) (rules : List RuleValue) → AreRules rules → (M : List Message) → AllByRecursion (IsSendable limit) M
+    → AllByRecursion (IsSendable limit) (under rules M)
+under_sendable limit rules are [] each = tt
+under_sendable limit rules are (one ∷ later) each =
+    sent_sendable limit rules are one.0 one.1 (made_of rules one.1) (under rules later) refl each.0 (under_sendable limit rules are later each.1)
+
+-- the messages that a log delivers
+delivered_sendable : (limit : ℕ) (settings : Settings) (log : List ℕ) (meanings : List (Option Stamped)) → 64 ≤ limit → LogMeans log meanings
+    → AllByRecursion (IsSendable limit) (messages limit (trace settings meanings))
+delivered_sendable limit settings log meanings least means =
     messages_sendable limit (trace settings meanings) least (trace_of_bytes settings 1 (log_lines log) meanings means)
+
+-- the messages of a log
+pub log_carried : (limit : ℕ) (settings : Settings) (log : List ℕ) (meanings : List (Option Stamped)) → 64 ≤ limit → LogMeans log meanings
+    → AllByRecursion (IsCarried limit) (messages_of_lines limit settings meanings)
+log_carried limit settings log meanings least means =
+    let T = trace settings meanings in
+    under_carried limit settings.rules (messages limit T) (all_carried limit (messages limit T) (delivered_sendable limit settings log meanings least means))
+
+log_sendable : (limit : ℕ) (settings : Settings) (log : List ℕ) (meanings : List (Option Stamped)) → 64 ≤ limit → AreSettings settings → LogMeans log meanings
+    → AllByRecursion (IsSendable limit) (messages_of_lines limit settings meanings)
+log_sendable limit settings log meanings least are means =
+    under_sendable limit settings.rules are.rules (messages limit (trace settings meanings)) (delivered_sendable limit settings log meanings least means)
+
+-- ---- a canonical log under rules, and without them
+
+-- rules leave the messages of a meaning under them as they are
+meaning_left : (settings : Settings) (M : List Message) → AreSettings settings
+    → under settings.rules (flattened (meaning (under settings.rules M))) ≡ flattened (meaning (under settings.rules M))
+meaning_left settings M are =
+    let rules = settings.rules in
+    let N = under rules M in
+    what_stays_is_left rules (flattened (meaning N)) (none_is_made_up (stays rules) N (what_is_left_stays rules are.rules.apart M))
+
+-- and leave out none of such messages
+none_left_out : (rules : List RuleValue) (M : List Message) → under rules M ≡ M → left_out rules M ≡ 0
+none_left_out rules M left =
+    let all = left_out_are_the_rest rules M in
+    let same = ap length left in
+    omega arith
+
+-- settings stay settings without rules
+still_settings : (settings : Settings) → AreSettings settings → AreSettings (without_rules settings)
+still_settings settings are = record {
+  tester = are.tester;
+  unit = are.unit;
+  apart = are.apart;
+  least = are.least;
+  most = are.most;
+  rules = record { most = omega arith; each = tt; apart = tt };
+}
+
+-- and canonical logs are spelled the same
+same_id : (settings : Settings) (d : Dir) → id_of (without_rules settings) d ≡ id_of settings d
+same_id settings dir.Tester = refl
+same_id settings dir.Unit = refl
+
+same_lines : (settings : Settings) (n : ℕ) (frames : List (Dir × List ℕ)) → canonical_lines (without_rules settings) n frames ≡ canonical_lines settings n frames
+unfolding canonical_lines
+same_lines settings n [] = refl
+same_lines settings n (frame ∷ later) =
+    ap (λ id. canonical_text n id frame.1 ∷ canonical_lines (without_rules settings) (n + 1) later) (same_id settings frame.0)
+    ∙ ap (λ lines. canonical_text n (id_of settings frame.0) frame.1 ∷ lines) (same_lines settings (n + 1) later)
+
+same_spelling : (limit : ℕ) (settings : Settings) (M : List Message) → canonical_log limit (without_rules settings) M ≡ canonical_log limit settings M
+unfolding canonical_log log_of_frames
+same_spelling limit settings M = ap ended_lines (same_lines settings 0 (all_frames limit M))
 
 -- ---- the laws
 
@@ -190,41 +320,62 @@ none_removed M =
     let all = none_is_lost (flattened (meaning M)) in
     omega arith
 
-clean_summary : (limit : ℕ) (settings : Settings) (log : List ℕ) (meanings : List (Option Stamped)) (M : List Message) → messages_of_lines limit settings meanings ≡ flattened (meaning M)
-    → IsClean limit (trace settings meanings) → IsCleanSummary (summary_of limit settings log meanings)
+clean_summary : (limit : ℕ) (settings : Settings) (text : List ℕ) (M : List Message) → under settings.rules (flattened (meaning M)) ≡ flattened (meaning M)
+    → (again : ReadsAs limit settings text (flattened (meaning M))) → IsCleanSummary (summary_of limit settings text again.meanings)
 unfolding summary_of
-clean_summary limit settings log meanings M same clean =
-    let none = (clean_is_counted limit (trace settings meanings)).0 clean in
+clean_summary limit settings text M left again =
+    let none = (clean_is_counted limit (trace settings again.meanings)).0 again.clean in
     record {
       dropped = none.0;
       ended = none.1;
       unfinished = none.2;
-      pending = ap (λ x. length (removed_messages x)) same ∙ none_removed M;
+      pending = ap (λ x. length (removed_messages x)) again.same ∙ none_removed M;
+      left_out = ap (left_out settings.rules) again.delivers ∙ none_left_out settings.rules (flattened (meaning M)) left;
+    }
+
+-- a text that is read so is its own canonical log
+own_canonical_log : (limit : ℕ) (settings : Settings) (text : List ℕ) (M : List Message) → length text ≤ settings.max_bytes
+    → text ≡ canonical_log limit settings (flattened (meaning M)) → under settings.rules (flattened (meaning M)) ≡ flattened (meaning M)
+    → ReadsAs limit settings text (flattened (meaning M)) → IsOwnCanonicalLog limit settings text
+own_canonical_log limit settings text M fits spelled left again =
+    let meaning_is : meaning_of_lines limit settings again.meanings ≡ meaning M = ap meaning again.same ∙ meaning_is_kept M in
+    let own : canonical_log_of_lines limit settings again.meanings ≡ text =
+    ap (λ x. canonical_log limit settings (flattened x)) meaning_is ∙ sym spelled in
+    record {
+      accepted = record { text = canonical_log_of_lines limit settings again.meanings; summary = summary_of limit settings text again.meanings };
+      outcome = (
+        again.meanings,
+        record { short = fits; means = again.means; within = again.within },
+        record { spelled = refl; fits = subst (λ x. length x ≤ settings.max_bytes) (sym own) fits; counted = refl },
+      );
+      own = own;
+      clean = clean_summary limit settings text M left again;
     }
 
 pub canonical_is_canonical : CanonicalIsCanonical
 canonical_is_canonical limit settings message_limit are log accepted is =
     let meanings = is.0 in
+    let text = accepted.text in
     let M = messages_of_lines limit settings meanings in
-    let sent = meaning_sendable limit M (log_sendable limit settings log meanings message_limit.least is.1.means) in
-    let again = reads_again limit settings accepted.text (flattened (meaning M)) message_limit are sent is.2.spelled is.2.fits in
-    let meaning_is : meaning_of_lines limit settings again.meanings ≡ meaning M = ap meaning again.same ∙ meaning_is_kept M in
-    let own : canonical_log_of_lines limit settings again.meanings ≡ accepted.text =
-    ap (λ x. canonical_log limit settings (flattened x)) meaning_is ∙ sym is.2.spelled in
+    let N = flattened (meaning M) in
+    let sent = meaning_sendable limit M (log_sendable limit settings log meanings message_limit.least are is.1.means) in
+    let left = meaning_left settings (messages limit (trace settings meanings)) are in
+    let again = reads_again limit settings text N message_limit are sent left is.2.spelled is.2.fits in
+    let own = own_canonical_log limit settings text M is.2.fits is.2.spelled left again in
+    let plain = without_rules settings in
+    let plainly = is.2.spelled ∙ sym (same_spelling limit settings N) in
+    let read = reads_again limit plain text N message_limit (still_settings settings are) sent (no_rules_keep_all N) plainly is.2.fits in
     record {
-      accepted = record { text = canonical_log_of_lines limit settings again.meanings; summary = summary_of limit settings accepted.text again.meanings };
-      outcome = (
-        again.meanings,
-        record { short = is.2.fits; means = again.means; within = again.within },
-        record { spelled = refl; fits = subst (λ x. length x ≤ settings.max_bytes) (sym own) is.2.fits; counted = refl },
-      );
-      own = own;
+      accepted = own.accepted;
+      outcome = own.outcome;
+      own = own.own;
       same_meaning = record {
         items = meaning M;
         in_one = record { meanings = meanings; means = is.1.means; found = refl };
-        in_other = record { meanings = again.meanings; means = again.means; found = sym meaning_is };
+        in_other = record { meanings = again.meanings; means = again.means; found = sym (ap meaning again.same ∙ meaning_is_kept M) };
       };
-      clean = clean_summary limit settings accepted.text again.meanings M again.same again.clean;
+      clean = own.clean;
+      own_without_rules = own_canonical_log limit plain text M is.2.fits plainly (no_rules_keep_all N) read;
     }
 
 text_of_meaning : (limit : ℕ) (settings : Settings) (log : List ℕ) (accepted : Accepted) (items : List ItemValue) → IsOutcome limit settings log (Ok accepted)
@@ -254,7 +405,8 @@ pub recording_has_canonical_log : RecordingHasCanonicalLog
 recording_has_canonical_log limit settings log accepted M is records =
     let same = log_means_at_most_one log is.0 records.meanings is.1.means records.means in
     is.2.spelled ∙ ap (canonical_log_of_lines limit settings) same
-    ∙ ap (λ x. canonical_log limit settings (flattened (meaning x))) (recording_delivers limit (trace settings records.meanings) M records.recording)
+    ∙ ap (λ x. canonical_log limit settings (flattened (meaning (under settings.rules x))))
+    (recording_delivers limit (trace settings records.meanings) M records.recording)
 
 pub clean_summary_is_certificate : CleanSummaryIsCertificate
 unfolding summary_of
@@ -263,7 +415,17 @@ clean_summary_is_certificate limit settings log meanings least none_dropped no_e
 
 pub pending_are_the_rest : PendingAreTheRest
 unfolding summary_of
-pending_are_the_rest limit settings log meanings = none_is_lost (messages_of_lines limit settings meanings)
+pending_are_the_rest limit settings log meanings =
+    let meant = none_is_lost (messages_of_lines limit settings meanings) in
+    let left = left_out_are_the_rest settings.rules (messages limit (trace settings meanings)) in
+    omega arith
+
+pub no_rules_change_nothing : NoRulesChangeNothing
+unfolding summary_of
+no_rules_change_nothing limit settings log meanings none =
+    let M = messages limit (trace settings meanings) in
+    let same : under settings.rules M ≡ M = ap (λ rules. under rules M) none ∙ no_rules_keep_all M in
+    (same, none_left_out settings.rules M same)
 
 -- ---- how long a canonical log is
 
@@ -291,7 +453,7 @@ pub canonical_log_length_by_sides : CanonicalLogLengthBySides
 unfolding canonical_log log_of_frames
 canonical_log_length_by_sides limit settings log meanings is means =
     let M = messages_of_lines limit settings meanings in
-    let sent = meaning_sendable limit M (log_sendable limit settings log meanings is.least means) in
+    let sent = meaning_carried limit M (log_carried limit settings log meanings is.least means) in
     lines_length settings 0 (all_frames limit (flattened (meaning M))) (frames_are_full limit (flattened (meaning M)) is.most sent)
 
 pub canonical_log_length : CanonicalLogLength
@@ -329,7 +491,7 @@ clean_log_is_recording limit settings log summary certifies clean =
 -- what is written of a recording
 pub written_of_recording : (limit : ℕ) (settings : Settings) (log : List ℕ) (given : ℕ) (old new : List ℕ) (summary : Summary) (M : List Message)
     → Answers limit settings log given (Ok summary) old new → Records limit settings log M
-    → new ≡ old ++ canonical_log limit settings (flattened (meaning M))
+    → new ≡ old ++ canonical_log limit settings (flattened (meaning (under settings.rules M)))
 written_of_recording limit settings log given old new summary M answers records =
     answers.3 ∙ ap (λ x. old ++ x) (recording_has_canonical_log limit settings log answers.0 M answers.1 records)
 

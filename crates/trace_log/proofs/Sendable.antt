@@ -22,6 +22,11 @@ pub record IsSendable (limit : ℕ) (one : Message) : Type 0 where
   pub has_frames : HasFrames limit one
   pub bytes : AreBytes one.1
 
+-- A message of bytes that is within the limit.
+pub record IsCarried (limit : ℕ) (one : Message) : Type 0 where
+  pub fits : length one.1 ≤ limit
+  pub bytes : AreBytes one.1
+
 pub messages_sendable : (limit : ℕ) (T : List Entry) → 64 ≤ limit → HoldBytes T → AllByRecursion (IsSendable limit) (messages limit T)
 messages_sendable limit T least each =
     AllByRecursion-both (λ (one : Message). (1 ≤ length one.1) × (length one.1 ≤ limit)) (λ (one : Message). AreBytes one.1) (IsSendable limit)

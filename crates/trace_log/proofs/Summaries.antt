@@ -1,5 +1,5 @@
 -- The summary of a log that was received to its end.
-use Rattle.std.proofs.Common.{◌≡◌, ℕ, ◌+◌, ◌-◌, ◌<◌, ◌^◌, min, nat_lt, Bool, List, [], ◌∷◌, length, arith, refl, ap, ◌∙◌, Option, cond}
+use Rattle.std.proofs.Common.{◌≡◌, ℕ, ◌+◌, ◌<◌, ◌^◌, min, nat_lt, Bool, List, [], ◌∷◌, length, arith, refl, ap, ◌∙◌, Option, cond}
 use Rattle.std.proofs.lemmas.Bool.{ltb-true, and_parts}
 use Rattle.std.proofs.lemmas.List.Sums.{sum_by-append}
 use Rattle.direction.specs.declared.Dir.{Dir}
@@ -9,6 +9,8 @@ use Rattle.isotp_receive.specs.declared.TheConstants.{MESSAGE_LIMIT}
 use Rattle.isotp_receive.specs.Capacities.{PairValue}
 use Rattle.uds_exchange.specs.Exchanged.{look_exchanged}
 use Rattle.uds_exchange.specs.Meaning.{removed_messages}
+use Rattle.uds_rules.specs.Under.{left_out}
+use Rattle.isotp_receive.specs.Verdict.{messages}
 use Rattle.trace_log.specs.Settings.{Settings}
 use Rattle.trace_log.specs.Trace.{trace}
 use Rattle.trace_log.specs.Messages.{messages_of_lines}
@@ -21,12 +23,13 @@ use Rattle.trace_log.specs.proving.Receiving.{Receives}
 use Rattle.trace_log.specs.declared.summary.Summary.{Summary}
 
 -- a summary of these counts of frames
-abbrev summary_with : ℕ → ℕ → Summary → ℕ → ℕ → Bool → Bool → Summary
-summary_with lines frames counts unfinished pending ended exchanged = record counts {
+abbrev summary_with : ℕ → ℕ → Summary → ℕ → ℕ → ℕ → Bool → Bool → Summary
+summary_with lines frames counts unfinished pending ruled_out ended exchanged = record counts {
   lines = lines;
   frames = frames;
   unfinished = unfinished;
   pending = pending;
+  left_out = ruled_out;
   ends_in_line_feed = ended;
   looks_exchanged = exchanged;
 }
@@ -50,20 +53,21 @@ two_sides (e ∷ rest) =
     omega arith
 
 -- the counts of a log that was received to its end are its summary
-pub summed_up : (settings : Settings) (log : List ℕ) (meanings : List (Option Stamped)) (pair : PairValue) (lines frames : ℕ) (counts : Summary) (unfinished pending : ℕ) (ended exchanged : Bool)
+pub summed_up : (settings : Settings) (log : List ℕ) (meanings : List (Option Stamped)) (pair : PairValue) (lines frames : ℕ) (counts : Summary) (unfinished pending ruled_out : ℕ) (ended exchanged : Bool)
     → Receives settings meanings pair lines counts → ended ≡ ends_in_line_feed log → lines < 2 ^ 64
     → frames ≡ min (counts.tester_frames + counts.unit_frames) 18446744073709551615 → unfinished ≡ unfinished_in MESSAGE_LIMIT (trace settings meanings)
     → pending ≡ length (removed_messages (messages_of_lines MESSAGE_LIMIT settings meanings))
+    → ruled_out ≡ left_out settings.rules (messages MESSAGE_LIMIT (trace settings meanings))
     → exchanged ≡ look_exchanged (messages_of_lines MESSAGE_LIMIT settings meanings)
-    → summary_with lines frames counts unfinished pending ended exchanged ≡ summary_of MESSAGE_LIMIT settings log meanings
+    → summary_with lines frames counts unfinished pending ruled_out ended exchanged ≡ summary_of MESSAGE_LIMIT settings log meanings
 unfolding summary_of
-summed_up settings log meanings pair lines frames counts unfinished pending ended exchanged received ended_is few frames_are unfinished_are pending_are exchanged_is =
+summed_up settings log meanings pair lines frames counts unfinished pending ruled_out ended exchanged received ended_is few frames_are unfinished_are pending_are ruled_out_are exchanged_is =
     let both = two_sides (trace settings meanings) in
     let short = few_frames settings meanings in
     let of_tester = ap (λ (s : Summary). s.tester_frames) received.counted in
     let of_unit = ap (λ (s : Summary). s.unit_frames) received.counted in
     let all : frames ≡ length (trace settings meanings) = omega (arith, received.lines_are) in
-    rw (received.lines_are, all, received.counted, unfinished_are, pending_are, ended_is, exchanged_is) refl
+    rw (received.lines_are, all, received.counted, unfinished_are, pending_are, ruled_out_are, ended_is, exchanged_is) refl
 
 pub clean_log_has_both_sides : CleanLogHasBothSides
 unfolding summary_of

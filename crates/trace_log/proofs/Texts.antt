@@ -17,6 +17,8 @@ use Rattle.isotp_segment.specs.CanonicalFrames.{canonical_frames}
 use Rattle.uds_exchange.specs.Meaning.{meaning, flattened}
 use Rattle.uds_exchange.specs.Order.{early}
 use Rattle.uds_exchange.proofs.Promises.{early_stays, early_grows}
+use Rattle.uds_rules.specs.Under.{under}
+use Rattle.uds_rules.proofs.Promises.{under_goes_on}
 use Rattle.trace_log.specs.Settings.{Settings, id_of}
 use Rattle.trace_log.specs.Trace.{trace, trace_from}
 use Rattle.trace_log.specs.Messages.{messages_of_lines}
@@ -40,8 +42,13 @@ begins_again one two three first second =
 pub messages_of_more : (limit : ℕ) (settings : Settings) (meanings more : List (Option Stamped))
     → Begins (messages_of_lines limit settings meanings) (messages_of_lines limit settings (meanings ++ more))
 messages_of_more limit settings meanings more =
+    let T = trace settings meanings in
     let U = trace_from settings (1 + length meanings) more in
-    (messages_after limit (trace settings meanings) U, ap (messages limit) (trace_from-append settings 1 meanings more) ∙ messages_go_on limit (trace settings meanings) U)
+    let later = messages_after limit T U in (
+      under settings.rules later,
+      ap (λ T. under settings.rules (messages limit T)) (trace_from-append settings 1 meanings more) ∙ ap (under settings.rules) (messages_go_on limit T U)
+          ∙ under_goes_on settings.rules (messages limit T) later,
+    )
 
 -- ---- lines within a limit
 

@@ -6,7 +6,7 @@ use Rattle.std.specs.Prelude.{option_to_list}
 use Rattle.direction.specs.declared.Dir.{Dir}
 use Rattle.can_log.specs.declared.frame.Stamped.{Stamped}
 use Rattle.isotp_receive.specs.Trace.{Entry}
-use Rattle.trace_log.specs.Settings.{Settings, direction_of}
+use Rattle.trace_log.specs.Settings.{Settings, without_rules, direction_of}
 use Rattle.trace_log.specs.proving.Receiving.{entry_in}
 use Rattle.trace_log.specs.Trace.{entry_of, trace_from, trace}
 
@@ -44,3 +44,16 @@ pub trace_directed : (settings : Settings) (meanings : List (Option Stamped)) (s
     → Some d ≡ direction_of settings stamped.frame.id
     → trace settings (meanings ++ Some stamped ∷ []) ≡ trace settings meanings ++ entry_in meanings stamped d ∷ []
 trace_directed settings meanings stamped d is = trace_more settings meanings stamped ∙ rw (sym is) refl
+
+-- rules change no trace
+same_entry : (settings : Settings) (n : ℕ) (stamped : Stamped) → entry_of (without_rules settings) n stamped ≡ entry_of settings n stamped
+unfolding direction_of
+same_entry settings n stamped = refl
+
+pub same_trace_from : (settings : Settings) (n : ℕ) (meanings : List (Option Stamped)) → trace_from (without_rules settings) n meanings ≡ trace_from settings n meanings
+unfolding trace_from
+same_trace_from settings n [] = refl
+same_trace_from settings n (None ∷ meanings) = same_trace_from settings (n + 1) meanings
+same_trace_from settings n (Some stamped ∷ meanings) =
+    ap (λ (entry : Option Entry). option_to_list entry ++ trace_from (without_rules settings) (n + 1) meanings) (same_entry settings n stamped)
+    ∙ ap (λ l. option_to_list (entry_of settings n stamped) ++ l) (same_trace_from settings (n + 1) meanings)

@@ -1,5 +1,5 @@
 -- What holds of what logs mean, of why they are refused, and of canonical logs.
-use Rattle.std.specs.Prelude.{◌≡◌, ◌↔◌, ◌≤◌, ◌<◌, ◌^◌, ℕ, ◌+◌, ◌-◌, ◌*◌, Bool, true, List, ◌++◌, length, Option, Some, None, Result, Ok, Err}
+use Rattle.std.specs.Prelude.{◌≡◌, ◌↔◌, ◌≤◌, ◌<◌, ◌^◌, ℕ, ◌+◌, ◌-◌, ◌*◌, Bool, true, List, [], ◌++◌, length, map, Option, Some, None, Result, Ok, Err}
 use Rattle.std.specs.List.{AllByRecursion}
 use Rattle.can_log.specs.Canonical.{canonical_length}
 use Rattle.direction.specs.Dir.{Message}
@@ -14,11 +14,16 @@ use Rattle.isotp_receive.specs.Events.{oversize_in}
 use Rattle.isotp_receive.specs.FramesOf.{AreGivenTheirFrames, EachBelongsOnce}
 use Rattle.isotp_receive.specs.Recording.{IsRecording}
 use Rattle.isotp_segment.specs.Timed.{all_frames}
+use Rattle.isotp_receive.specs.Verdict.{messages}
 use Rattle.uds_exchange.specs.Meaning.{ItemValue, meaning, flattened}
+use Rattle.uds_rules.specs.Legal.{AreRules}
+use Rattle.uds_rules.specs.Rule.{RuleValue}
+use Rattle.uds_rules.specs.Under.{under}
 use Rattle.trace_log.specs.declared.fault.Fault.{Fault}
 use Rattle.trace_log.specs.declared.fault.Fault.TheVariants.{Read}
 use Rattle.trace_log.specs.declared.summary.Summary.{Summary}
-use Rattle.trace_log.specs.Settings.{Settings, AreSettings, id_of, direction_of}
+use Rattle.trace_log.specs.Settings.{Settings, AreSettings, without_rules, id_of, direction_of}
+use Rattle.trace_log.specs.MaskedItems.{only_mask, item_under}
 use Rattle.trace_log.specs.Trace.{trace}
 use Rattle.trace_log.specs.Messages.{messages_of_lines, meaning_of_lines, HasMeaning}
 use Rattle.trace_log.specs.CanonicalLog.{canonical_log, canonical_log_of_lines, fitting, early_text, lines_size}
@@ -57,27 +62,47 @@ abbrev pub ReadingIsOne : Type 0
 ReadingIsOne = (settings : Settings) (log : List ℕ) (one other : Result (List (Option Stamped)) Unreadable)
     → IsReadAs settings log one → IsReadAs settings log other → one ≡ other
 
+-- without rules the messages of a log are those that its trace delivers, and none is left out
+abbrev pub NoRulesChangeNothing : Type 0
+NoRulesChangeNothing = (limit : ℕ) (settings : Settings) (log : List ℕ) (meanings : List (Option Stamped)) → settings.rules ≡ []
+    → (messages_of_lines limit settings meanings ≡ messages limit (trace settings meanings))
+    × ((summary_of limit settings log meanings).left_out ≡ 0)
+
+-- where no rule leaves messages out, the meaning under the rules is the meaning, item by item under them
+abbrev pub MasksKeepItems : Type 0
+MasksKeepItems = (rules : List RuleValue) → AreRules rules → only_mask rules ≡ true → (M : List Message)
+    → meaning (under rules M) ≡ map (item_under rules) (meaning M)
+
 -- two logs have one meaning
 pub record HaveSameMeaning (limit : ℕ) (settings : Settings) (one other : List ℕ) : Type 0 where
   pub items : List ItemValue
   pub in_one : HasMeaning limit settings one items
   pub in_other : HasMeaning limit settings other items
 
--- nothing was dropped, ended, left unfinished or left out
+-- nothing was dropped, ended, left unfinished or left out, as a response pending or by a rule
 pub record IsCleanSummary (summary : Summary) : Type 0 where
   pub dropped : summary.dropped ≡ 0
   pub ended : summary.ended ≡ 0
   pub unfinished : summary.unfinished ≡ 0
   pub pending : summary.pending ≡ 0
+  pub left_out : summary.left_out ≡ 0
 
--- The text is a canonical log of the log: it is accepted, is its own canonical log, has the meaning of the log, and nothing
--- of it is dropped, ended, left unfinished or left out.
+-- The text is its own canonical log: it is accepted, and nothing of it is dropped, ended, left unfinished or left out.
+pub record IsOwnCanonicalLog (limit : ℕ) (settings : Settings) (text : List ℕ) : Type 0 where
+  pub accepted : Accepted
+  pub outcome : IsOutcome limit settings text (Ok accepted)
+  pub own : accepted.text ≡ text
+  pub clean : IsCleanSummary accepted.summary
+
+-- The text is a canonical log of the log: it is accepted, is its own canonical log, under the rules and without them,
+-- has the meaning of the log, and nothing of it is dropped, ended, left unfinished or left out.
 pub record IsCanonicalFor (limit : ℕ) (settings : Settings) (log text : List ℕ) : Type 0 where
   pub accepted : Accepted
   pub outcome : IsOutcome limit settings text (Ok accepted)
   pub own : accepted.text ≡ text
   pub same_meaning : HaveSameMeaning limit settings log text
   pub clean : IsCleanSummary accepted.summary
+  pub own_without_rules : IsOwnCanonicalLog limit (without_rules settings) text
 
 -- the canonical log of an accepted log is one
 abbrev pub CanonicalIsCanonical : Type 0
@@ -96,25 +121,27 @@ pub record Records (limit : ℕ) (settings : Settings) (log : List ℕ) (M : Lis
   pub means : LogMeans log meanings
   pub recording : IsRecording limit (trace settings meanings) M
 
--- where the trace of an accepted log is a recording of some messages, its text is the canonical log of their meaning:
--- so all recordings of these messages have one canonical log
+-- where the trace of an accepted log is a recording of some messages, its text is the canonical log of their meaning
+-- under the rules: so all recordings of these messages have one canonical log
 abbrev pub RecordingHasCanonicalLog : Type 0
 RecordingHasCanonicalLog = (limit : ℕ) (settings : Settings) (log : List ℕ) (accepted : Accepted) (M : List Message)
     → IsOutcome limit settings log (Ok accepted) → Records limit settings log M
-    → accepted.text ≡ canonical_log limit settings (flattened (meaning M))
+    → accepted.text ≡ canonical_log limit settings (flattened (meaning (under settings.rules M)))
 
--- where the summary of a log counts nothing dropped, ended or unfinished, its trace is a recording of its messages, each of
--- its own frames, and each frame that carries a message belongs to one: so such a summary is a certificate
+-- where the summary of a log counts nothing dropped, ended or unfinished, its trace is a recording of what it delivers,
+-- each message of its own frames, and each frame that carries a message belongs to one: so such a summary is a
+-- certificate
 abbrev pub CleanSummaryIsCertificate : Type 0
 CleanSummaryIsCertificate = (limit : ℕ) (settings : Settings) (log : List ℕ) (meanings : List (Option Stamped)) → 64 ≤ limit
     → (summary_of limit settings log meanings).dropped ≡ 0 → (summary_of limit settings log meanings).ended ≡ 0 → (summary_of limit settings log meanings).unfinished ≡ 0
-    → (recording : IsRecording limit (trace settings meanings) (messages_of_lines limit settings meanings))
+    → (recording : IsRecording limit (trace settings meanings) (messages limit (trace settings meanings)))
     × AreGivenTheirFrames limit (trace settings meanings) recording.transfers × EachBelongsOnce (trace settings meanings) recording.transfers
 
--- the messages of a log are those of its meaning and those left out
+-- the messages that a log delivers are those of its meaning and those left out, as responses pending or by rules
 abbrev pub PendingAreTheRest : Type 0
 PendingAreTheRest = (limit : ℕ) (settings : Settings) (log : List ℕ) (meanings : List (Option Stamped))
-    → length (flattened (meaning_of_lines limit settings meanings)) + (summary_of limit settings log meanings).pending ≡ (summary_of limit settings log meanings).messages
+    → length (flattened (meaning_of_lines limit settings meanings)) + (summary_of limit settings log meanings).pending
+    + (summary_of limit settings log meanings).left_out ≡ (summary_of limit settings log meanings).messages
 
 -- each frame is one of the tester or one of the unit
 abbrev pub FramesAreOfTwoSides : Type 0
@@ -161,7 +188,7 @@ LongestMessage = (announced rx_dl : ℕ) (bytes : List ℕ)
 -- a log may have any number of bytes from 1 to 1,099,511,627,776 as its limit, and no other
 abbrev pub LargestLimit : Type 0
 LargestLimit = (settings : Settings) (max_bytes : ℕ) → AreSettings settings
-    → AreSettings (record { tester = settings.tester; unit = settings.unit; max_bytes = max_bytes }) ↔ ((1 ≤ max_bytes) × (max_bytes ≤ 1099511627776))
+    → AreSettings (record settings { max_bytes = max_bytes }) ↔ ((1 ≤ max_bytes) × (max_bytes ≤ 1099511627776))
 
 -- where a run tells how far it read, nothing refuses the log in all that was given but the last 4,096 bytes
 abbrev pub ReadsByPieces : Type 0
@@ -212,18 +239,23 @@ abbrev pub LargerLimitKeeps : Type 0
 LargerLimitKeeps = (limit larger : ℕ) (settings : Settings) (log : List ℕ) (accepted : Accepted) → 64 ≤ limit → limit ≤ larger
     → IsOutcome limit settings log (Ok accepted) → IsOutcome larger settings log (Ok accepted)
 
--- The log is legal, and its trace is a recording of its messages: each is given its own frames, and each frame that carries
--- a message belongs to exactly one.
+-- The log is legal, and its trace is a recording of the messages that it delivers: each is given its own frames, and
+-- each frame that carries a message belongs to exactly one.
 pub record IsCertified (limit : ℕ) (settings : Settings) (log : List ℕ) : Type 0 where
   pub meanings : List (Option Stamped)
   pub means : LogMeans log meanings
-  pub recording : IsRecording limit (trace settings meanings) (messages_of_lines limit settings meanings)
+  pub recording : IsRecording limit (trace settings meanings) (messages limit (trace settings meanings))
   pub own_frames : AreGivenTheirFrames limit (trace settings meanings) recording.transfers
   pub once : EachBelongsOnce (trace settings meanings) recording.transfers
 
 -- a summary of the log certifies so, where it counts nothing dropped, ended or unfinished
 abbrev pub Certifies : ℕ → Settings → List ℕ → Summary → Type 0
 Certifies limit settings log summary = summary.dropped ≡ 0 → summary.ended ≡ 0 → summary.unfinished ≡ 0 → IsCertified limit settings log
+
+-- what a summary certifies, it certifies whatever the rules
+abbrev pub CertificateKnowsNoRules : Type 0
+CertificateKnowsNoRules = (limit : ℕ) (settings : Settings) (log : List ℕ) (summary : Summary)
+    → Certifies limit (without_rules settings) log summary → Certifies limit settings log summary
 
 -- the summary of an accepted log does
 abbrev pub SummaryCertifies : Type 0

@@ -1,6 +1,7 @@
 pub mod Settings
 pub mod Trace
 pub mod Messages
+pub mod MaskedItems
 pub mod CanonicalLog
 pub mod Summing
 pub mod Refusal

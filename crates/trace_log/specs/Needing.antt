@@ -1,11 +1,12 @@
 -- The first lines of a log, and for which of its frames a run needs memory.
-use Rattle.std.specs.Prelude.{◌≡◌, ℕ, ◌<◌, List, [], ◌∷◌, ◌++◌, length, Option}
+use Rattle.std.specs.Prelude.{◌≡◌, ℕ, ◌<◌, ◌⊎◌, true, List, [], ◌∷◌, ◌++◌, length, Option}
 use Rattle.can_log.specs.Log.{log_lines, LinesMean}
 use Rattle.can_log.specs.declared.frame.Stamped.{Stamped}
 use Rattle.isotp_pdu.specs.Reading.{layout_of}
 use Rattle.isotp_receive.specs.Growth.{MayBeRefused}
 use Rattle.isotp_receive.specs.Trace.{Entry}
-use Rattle.isotp_receive.specs.Verdict.{verdict}
+use Rattle.isotp_receive.specs.Verdict.{message, verdict}
+use Rattle.uds_rules.specs.Rule.{RuleValue, is_masked}
 use Rattle.trace_log.specs.Settings.{Settings}
 use Rattle.trace_log.specs.Trace.{trace}
 
@@ -36,6 +37,16 @@ pub record HasFrame (Holds : List Entry → Entry → Type 0) (settings : Settin
 abbrev pub IsKeptForMessage : ℕ → List Entry → Entry → Type 0
 IsKeptForMessage limit T e = MayBeRefused (layout_of e.frame) (verdict limit T e).verdict
 
--- the log has a frame whose bytes are kept
+-- The frame completes a message of which rules mask a copy.
+abbrev pub CompletesMasked : ℕ → List RuleValue → List Entry → Entry → Type 0
+CompletesMasked limit rules T e =
+    (bytes : List ℕ) × ((verdict limit T e).verdict ≡ message bytes) × (is_masked rules bytes ≡ true)
+
+-- The bytes of the frame are kept, or it completes a message that is masked: so for a frame a run may need memory
+-- before anything is made of its message.
+abbrev pub IsKeptOrMasked : ℕ → List RuleValue → List Entry → Entry → Type 0
+IsKeptOrMasked limit rules T e = IsKeptForMessage limit T e ⊎ CompletesMasked limit rules T e
+
+-- the log has such a frame
 abbrev pub NeedsMemoryToReceive : ℕ → Settings → List ℕ → Type 0
-NeedsMemoryToReceive limit = HasFrame (IsKeptForMessage limit)
+NeedsMemoryToReceive limit settings = HasFrame (IsKeptOrMasked limit settings.rules) settings

@@ -1,31 +1,40 @@
 -- What a contract sees of a `Config`, and which settings there are.
-use Rattle.std.specs.Prelude.{◌≡◌, ◌≢◌, ℕ, ◌^◌, ◌<◌, ◌≤◌, ◌==◌, ◌⊎◌, Bool, false, Option, Some, None, Result, Ok, Err, if◌then◌else◌}
+use Rattle.std.specs.Prelude.{◌≡◌, ◌≢◌, ℕ, ◌^◌, ◌<◌, ◌≤◌, ◌==◌, ◌⊎◌, Bool, false, List, [], Option, Some, None, Result, Ok, Err, if◌then◌else◌}
 use Rattle.can_log.specs.Frame.{IsCanIdentifier}
 use Rattle.direction.specs.declared.Dir.{Dir}
 use Rattle.direction.specs.declared.Dir.TheVariants as dir
 use Rattle.can_log.specs.declared.frame.Id.{Id}
 use Rattle.can_log.specs.declared.frame.Id.TheVariants as id
+use Rattle.uds_rules.specs.Legal.{AreRules}
+use Rattle.uds_rules.specs.Rule.{RuleValue}
 use Rattle.trace_log.specs.declared.fault.ConfigFault.{ConfigFault}
 use Rattle.trace_log.specs.declared.fault.ConfigFault.TheVariants.{IdRange, SameId, LimitRange}
 
--- the identifiers of the two sides, and the most bytes of a log and of its canonical log
+-- the identifiers of the two sides, the most bytes of a log and of its canonical log, and the rules that its messages
+-- are under
 pub record Settings : Type 0 where
   pub tester : Id
   pub unit : Id
   pub max_bytes : ℕ
+  pub rules : List RuleValue
 
--- a bus carries both, and they aren't the same one; the limit is 1 to 2^40 bytes
+-- a bus carries both, and they aren't the same one; the limit is 1 to 2^40 bytes; the rules are those of a profile
 pub record AreSettings (settings : Settings) : Type 0 where
   pub tester : IsCanIdentifier settings.tester
   pub unit : IsCanIdentifier settings.unit
   pub apart : settings.tester ≢ settings.unit
   pub least : 1 ≤ settings.max_bytes
   pub most : settings.max_bytes ≤ 2 ^ 40
+  pub rules : AreRules settings.rules
 
--- The settings with these parts, or why there are none: of the reasons that apply, the first of these.
+-- the same settings without rules
+abbrev pub without_rules : Settings → Settings
+without_rules settings = record settings { rules = [] }
+
+-- The settings with these parts and no rules, or why there are none: of the reasons that apply, the first of these.
 abbrev pub Configures : Id → Id → ℕ → Result Settings ConfigFault → Type 0
 Configures tester unit max_bytes (Ok settings) =
-    (settings ≡ record { tester = tester; unit = unit; max_bytes = max_bytes }) × AreSettings settings
+    (settings ≡ record { tester = tester; unit = unit; max_bytes = max_bytes; rules = [] }) × AreSettings settings
 Configures tester unit max_bytes (Err IdRange) = (¬ IsCanIdentifier tester) ⊎ (¬ IsCanIdentifier unit)
 Configures tester unit max_bytes (Err SameId) = IsCanIdentifier tester × IsCanIdentifier unit × (tester ≡ unit)
 Configures tester unit max_bytes (Err LimitRange) =

@@ -10,6 +10,7 @@ use Rattle.isotp_receive.specs.Trace.{Entry, same_direction}
 use Rattle.isotp_receive.specs.Verdict.{VerdictValue, EventValue, message, began, stored, flowed, dropped, messages}
 use Rattle.uds_exchange.specs.Exchanged.{look_exchanged}
 use Rattle.uds_exchange.specs.Meaning.{removed_messages}
+use Rattle.uds_rules.specs.Under.{left_out}
 use Rattle.trace_log.specs.declared.summary.Count.{Count}
 use Rattle.trace_log.specs.declared.summary.Summary.{Summary}
 use Rattle.trace_log.specs.Settings.{Settings}
@@ -41,6 +42,7 @@ counted_in limit T = record {
   ended = ended_in limit T;
   unfinished = 0;
   pending = 0;
+  left_out = 0;
   ends_in_line_feed = false;
   looks_exchanged = false;
 }
@@ -52,6 +54,7 @@ summary_of limit settings log meanings = record (counted_in limit (trace setting
   frames = length (trace settings meanings);
   unfinished = unfinished_in limit (trace settings meanings);
   pending = length (removed_messages (messages_of_lines limit settings meanings));
+  left_out = left_out settings.rules (messages limit (trace settings meanings));
   ends_in_line_feed = ends_in_line_feed log;
   looks_exchanged = look_exchanged (messages_of_lines limit settings meanings);
 }

@@ -1,4 +1,4 @@
-//! Whose frames are read, and how much of a log.
+//! Whose frames are read, how much of a log, and under which rules.
 ghost use Rattle.std.specs.Prelude.{◌↔◌, IsTrue};
 ghost use Rattle.can_log.specs.Frame.{IsCanIdentifier};
 
@@ -6,6 +6,7 @@ use crate::fault::ConfigFault;
 use can_log::{Id, Wanted};
 use direction::Dir;
 use std::marker::Model;
+use uds_rules::Rules;
 
 /// The most bytes that a limit can allow: 2^40.
 pub const LARGEST_LIMIT: u64 = 1 << 40;
@@ -16,12 +17,14 @@ const LARGEST_BASE_ID: u16 = 0x7FF;
 /// The largest extended identifier, of 29 bits.
 const LARGEST_EXTENDED_ID: u32 = 0x1FFF_FFFF;
 
-/// The identifiers of the tester and the unit, and the most bytes of a log and of its canonical log.
+/// The identifiers of the tester and the unit, the most bytes of a log and of its canonical log, and the rules that
+/// messages are under. The rules make it large: it is handed on by reference.
 #[derive(Clone, Copy, Debug, PartialEq, Eq)]
 pub struct Config {
     /// The tester's identifier, and then the unit's.
     wanted: Wanted,
     max_bytes: u64,
+    rules: Rules,
 }
 
 impl Model for Config {
@@ -29,20 +32,20 @@ impl Model for Config {
 
     ghost Value = { Settings };
 
-    ghost view = { λ c. record { tester = c.wanted.first; unit = c.wanted.second; max_bytes = c.max_bytes } };
+    ghost view = { λ c. record { tester = c.wanted.first; unit = c.wanted.second; max_bytes = c.max_bytes; rules = c.rules } };
 
-    ghost invariant = { λ c. AreSettings (record { tester = c.wanted.first; unit = c.wanted.second; max_bytes = c.max_bytes }) };
+    ghost invariant = { λ c. AreSettings (record { tester = c.wanted.first; unit = c.wanted.second; max_bytes = c.max_bytes; rules = c.rules }) };
 
-    ghost inverse = { λ s. record { wanted = record { first = s.tester; second = s.unit }; max_bytes = s.max_bytes } };
+    ghost inverse = { λ s. record { wanted = record { first = s.tester; second = s.unit }; max_bytes = s.max_bytes; rules = s.rules } };
 }
 
 impl Config {
     ghost use Rattle.std.specs.Prelude.{◌≡◌};
-    ghost use Rattle.trace_log.specs.Settings.{AreSettings, Configures, id_of, direction_of};
+    ghost use Rattle.trace_log.specs.Settings.{AreSettings, Configures, without_rules, id_of, direction_of};
 
-    /// The configuration with these parts. A base identifier is at most 7FF, an extended one at most 1FFFFFFF, and the two
-    /// sides don't have the same one: equal numbers of different formats are different identifiers. The limit is 1 to
-    /// [`LARGEST_LIMIT`]. Of several faults the first of [`ConfigFault`] is answered.
+    /// The configuration with these parts, and no rules. A base identifier is at most 7FF, an extended one at most
+    /// 1FFFFFFF, and the two sides don't have the same one: equal numbers of different formats are different
+    /// identifiers. The limit is 1 to [`LARGEST_LIMIT`]. Of several faults the first of [`ConfigFault`] is answered.
     pub fn new(tester: Id, unit: Id, max_bytes: u64) -> Result<Config, ConfigFault>
         ensures { Configures tester unit max_bytes result }
     {
@@ -58,7 +61,27 @@ impl Config {
         Ok(Config {
             wanted: Wanted::new(tester, unit),
             max_bytes,
+            rules: Rules::none(),
         })
+    }
+
+    /// This configuration with these rules in place of its own.
+    pub fn with_rules(&self, rules: &Rules) -> Config
+        ensures { result ≡ record self.now { rules = rules.now } }
+    {
+        let _ = rules.as_slice();
+        Config {
+            wanted: self.wanted,
+            max_bytes: self.max_bytes,
+            rules: *rules,
+        }
+    }
+
+    /// This configuration without rules.
+    pub fn without_rules(&self) -> Config
+        ensures { result ≡ without_rules self.now }
+    {
+        self.with_rules(&Rules::none())
     }
 
     /// The identifier of the frames that the tester sends.
@@ -89,6 +112,14 @@ impl Config {
         ensures settings { AreSettings self.now }
     {
         self.max_bytes
+    }
+
+    /// The rules that messages are under.
+    #[inline(always)]
+    pub fn rules(&self) -> &Rules
+        ensures { result.now ≡ self.now.rules }
+    {
+        &self.rules
     }
 
     /// The identifier of the frames of a direction.

@@ -1,5 +1,5 @@
 //! What holds of what logs mean, of why they are refused, and of canonical logs.
-ghost use Rattle.trace_log.specs.Laws.{DirectionIsById, OutcomeIsThere, OutcomeIsOne, CanonicalIsCanonical, SameMeaningSameText, RecordingHasCanonicalLog, CleanSummaryIsCertificate, CleanLogIsRecording, CleanLogHasBothSides, FramesAreOfTwoSides, PendingAreTheRest, EarlyTextStays, EarlyTextGrows, LinesReadAreThere, LinesReadAreOne, ReadingIsThere, ReadingIsOne, FittingIsLongest, FaultLeavesFront, LongestMessage, LargestLimit, ReadsByPieces, WritesByPieces, CanonicalLogLength, CanonicalLogLengthBySides, BadLineIsLowest, OversizeIsLowest, LargerLimitKeeps, SummaryCertifies};
+ghost use Rattle.trace_log.specs.Laws.{DirectionIsById, OutcomeIsThere, OutcomeIsOne, NoRulesChangeNothing, MasksKeepItems, CanonicalIsCanonical, SameMeaningSameText, RecordingHasCanonicalLog, CleanSummaryIsCertificate, CleanLogIsRecording, CleanLogHasBothSides, FramesAreOfTwoSides, PendingAreTheRest, EarlyTextStays, EarlyTextGrows, LinesReadAreThere, LinesReadAreOne, ReadingIsThere, ReadingIsOne, FittingIsLongest, FaultLeavesFront, LongestMessage, LargestLimit, ReadsByPieces, WritesByPieces, CanonicalLogLength, CanonicalLogLengthBySides, BadLineIsLowest, OversizeIsLowest, LargerLimitKeeps, SummaryCertifies, CertificateKnowsNoRules};
 
 /// A frame has a direction exactly where its identifier is that of the direction.
 pub fn direction_is_by_id()
@@ -16,8 +16,18 @@ pub fn outcome_is_one()
     ensures { OutcomeIsOne }
 {}
 
-/// A canonical log is accepted, is its own canonical log, and has the meaning of the log that it was made of; nothing of it
-/// is dropped, ended, left unfinished or left out.
+/// Without rules a log has the messages that its trace delivers, and none is left out.
+pub fn no_rules_change_nothing()
+    ensures { NoRulesChangeNothing }
+{}
+
+/// Where no rule leaves messages out, the meaning under the rules is the meaning, item by item under them.
+pub fn masks_keep_items()
+    ensures { MasksKeepItems }
+{}
+
+/// A canonical log is accepted, is its own canonical log, under the rules and without them, and has the meaning of the
+/// log that it was made of; nothing of it is dropped, ended, left unfinished or left out.
 pub fn canonical_is_canonical()
     ensures { CanonicalIsCanonical }
 {}
@@ -27,15 +37,16 @@ pub fn same_meaning_same_text()
     ensures { SameMeaningSameText }
 {}
 
-/// All accepted recordings of some messages have one canonical log: that of the messages' meaning.
+/// All accepted recordings of some messages have one canonical log: that of the messages' meaning under the rules.
 pub fn recording_has_canonical_log()
     ensures { RecordingHasCanonicalLog }
 {}
 
-/// Where a summary counts nothing dropped, ended or unfinished, the trace is a recording of the log's messages.
+/// Where a summary counts nothing dropped, ended or unfinished, the trace is a recording of what the log delivers.
 pub fn clean_summary_is_certificate()
     ensures lines { CleanSummaryIsCertificate }
     ensures log { SummaryCertifies }
+    ensures rules { CertificateKnowsNoRules }
 {}
 
 /// A clean log is a recording of exactly the messages that it delivers.
@@ -53,7 +64,7 @@ pub fn frames_are_of_two_sides()
     ensures { FramesAreOfTwoSides }
 {}
 
-/// The messages of a log are those of its meaning and those left out.
+/// The messages that a log delivers are those of its meaning and those left out, as responses pending or by rules.
 pub fn pending_are_the_rest()
     ensures { PendingAreTheRest }
 {}

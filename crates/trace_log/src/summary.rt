@@ -29,6 +29,8 @@ pub struct Summary {
     pub unfinished: u64,
     /// The messages that the canonical log leaves out, responses that only announce a later one.
     pub pending: u64,
+    /// The messages that rules leave out.
+    pub left_out: u64,
     /// Whether the last byte of the log is a line feed. A log without bytes has none.
     pub ends_in_line_feed: bool,
     /// Whether tester and unit look exchanged: the tester sent responses and no request, and the unit what is no response.
@@ -54,6 +56,7 @@ impl Summary {
             ended: 0,
             unfinished: 0,
             pending: 0,
+            left_out: 0,
             ends_in_line_feed: false,
             looks_exchanged: false,
         }
@@ -78,7 +81,7 @@ impl Summary {
         }
     }
 
-    /// The seven counts that are told, each with its name, in this order: all but those of each side.
+    /// The seven counts that are told of a log as it is, each with its name, in this order.
     pub fn named(&self) -> [Count; 7]
         ensures { seen_counts result ≡ named_counts self.now }
     {

@@ -76,8 +76,9 @@ module _ (are_the_meaning : ItemsAreTheMeaning) where
   same-items : (settings : Settings) (log : List ℕ) (held : SessionValue) (session : Session) → Keeps.KeepsOne MESSAGE_LIMIT settings log (Ok held)
       → GivesSession MESSAGE_LIMIT settings log (Ok session) → values_in held ≡ session.meaning
   same-items settings log held session (meanings, read, is) accepted =
-      ap values_in is ∙ are_the_meaning (trace settings meanings)
-      ∙ ap (meaning_of_lines MESSAGE_LIMIT settings) (log_means_at_most_one log meanings accepted.means.meanings read.1 accepted.means.means) ∙ sym accepted.means.found
+      let means = accepted.accepted.means in
+      ap values_in is ∙ are_the_meaning settings.rules (trace settings meanings)
+      ∙ ap (meaning_of_lines MESSAGE_LIMIT settings) (log_means_at_most_one log meanings means.meanings read.1 means.means) ∙ sym means.found
 
   pub agrees : AgreesWithCompare
   agrees settings one other held compared holds compares =

@@ -6,7 +6,7 @@ use Rattle.std.proofs.lemmas.List.{drop_all}
 use Rattle.uds_exchange.specs.Meaning.{ItemValue}
 use Rattle.trace_pair.specs.Verdict.{is_exchange}
 use Rattle.trace_pair.specs.proving.Changing.{asks_if}
-use Rattle.trace_pair.proofs.Pieces.{drop-first, past-end}
+use Rattle.pair_words.proofs.Promises.{drop-first, past-end}
 
 -- one from a place on asks
 abbrev pub asks_from : List ItemValue → ℕ → Bool

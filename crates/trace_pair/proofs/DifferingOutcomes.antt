@@ -3,11 +3,12 @@ use Rattle.std.proofs.Common.{◌≡◌, ◌≢◌, ℕ, Bool, true, false, List
 use Rattle.std.specs.Prelude.{codes, if◌then◌else◌}
 use Rattle.uds_message.specs.Message.{is_negative_response, is_suppressing, response_code}
 use Rattle.uds_difference.specs.Likeness.{same_bytes}
+use Rattle.uds_rules.specs.Rule.{RuleValue}
 use Rattle.uds_exchange.specs.Meaning.{exchange}
-use Rattle.trace_pair.specs.ByteWords.{byte_words}
+use Rattle.pair_words.specs.ByteWords.{byte_words}
 use Rattle.trace_pair.specs.ItemWords.{answer_bytes, answers_differ, between, came_of, differ, outcome_in, outcomes_differ, same_outcome}
 use Rattle.trace_pair.specs.OutcomeLaws.{asked_words, none_outcome, none_words}
-use Rattle.trace_pair.specs.declared.log.PairLog.TheVariants.{A, B}
+use Rattle.pair_words.specs.declared.log.PairLog.TheVariants.{A, B}
 use Rattle.trace_pair.specs.declared.outcome.Outcome.{Outcome}
 use Rattle.trace_pair.specs.declared.outcome.Outcome.TheVariants.{Positive, Refused}
 
@@ -16,12 +17,12 @@ abbrev pub answered : Bool → ℕ → Outcome
 answered negative code = if negative then Refused code else Positive
 
 -- two outcomes that are not the same are told behind what differs of the requests
-told-apart : (alike : Bool) (bytes : List ℕ) (one other : Outcome) (answer reply : Option (List ℕ)) → same_outcome one other ≡ false
-    → (if alike then answers_differ [] one other answer reply else codes "request" ++ bytes ++ answers_differ (codes "; ") one other answer reply)
+told-apart : (rules : List RuleValue) (alike : Bool) (bytes : List ℕ) (one other : Outcome) (answer reply : Option (List ℕ)) → same_outcome one other ≡ false
+    → (if alike then answers_differ rules [] one other answer reply else codes "request" ++ bytes ++ answers_differ rules (codes "; ") one other answer reply)
     ≡ (if alike then [] else codes "request" ++ bytes ++ codes "; ") ++ outcomes_differ one other
-told-apart true bytes one other answer reply different = ap (λ (same : Bool). if same then answer_bytes [] answer reply else outcomes_differ one other) different
-told-apart false bytes one other answer reply different =
-    ap (λ (same : Bool). codes "request" ++ bytes ++ (if same then answer_bytes (codes "; ") answer reply else codes "; " ++ outcomes_differ one other)) different
+told-apart rules true bytes one other answer reply different = ap (λ (same : Bool). if same then answer_bytes rules [] answer reply else outcomes_differ one other) different
+told-apart rules false bytes one other answer reply different =
+    ap (λ (same : Bool). codes "request" ++ bytes ++ (if same then answer_bytes rules (codes "; ") answer reply else codes "; " ++ outcomes_differ one other)) different
     ∙ sym (append_assoc (codes "request" ++ bytes) (codes "; ") (outcomes_differ one other))
 
 -- what came of a request with an answer is not what came of one without
@@ -61,32 +62,32 @@ words-both false true = refl
 words-both false false = refl
 
 -- two exchanges, of which the first one has no answer
-pub left-none : (request other reply : List ℕ)
-    → differ (exchange request None) (exchange other (Some reply))
-    ≡ asked_words request other ++ (none_words A (is_suppressing request) ++ between (none_outcome (is_suppressing request)) ++ outcome_in B false (came_of other (Some reply)))
-left-none request other reply =
+pub left-none : (rules : List RuleValue) (request other reply : List ℕ)
+    → differ rules (exchange request None) (exchange other (Some reply))
+    ≡ asked_words rules request other ++ (none_words A (is_suppressing request) ++ between (none_outcome (is_suppressing request)) ++ outcome_in B false (came_of other (Some reply)))
+left-none rules request other reply =
     let silent = is_suppressing request in
     let negative = is_negative_response reply in
     let code = response_code reply in
-    told-apart (same_bytes request other) (byte_words request other) (none_outcome silent) (answered negative code) None (Some reply) (other-right silent negative code)
-    ∙ ap (λ (words : List ℕ). asked_words request other ++ words) (words-left silent (answered negative code))
+    told-apart rules (same_bytes request other) (byte_words rules request other) (none_outcome silent) (answered negative code) None (Some reply) (other-right silent negative code)
+    ∙ ap (λ (words : List ℕ). asked_words rules request other ++ words) (words-left silent (answered negative code))
 
 -- of which the second one has none
-pub right-none : (request other reply : List ℕ)
-    → differ (exchange request (Some reply)) (exchange other None)
-    ≡ asked_words request other ++ (outcome_in A false (came_of request (Some reply)) ++ codes ", " ++ none_words B (is_suppressing other))
-right-none request other reply =
+pub right-none : (rules : List RuleValue) (request other reply : List ℕ)
+    → differ rules (exchange request (Some reply)) (exchange other None)
+    ≡ asked_words rules request other ++ (outcome_in A false (came_of request (Some reply)) ++ codes ", " ++ none_words B (is_suppressing other))
+right-none rules request other reply =
     let silent = is_suppressing other in
     let negative = is_negative_response reply in
     let code = response_code reply in
-    told-apart (same_bytes request other) (byte_words request other) (answered negative code) (none_outcome silent) (Some reply) None (other-left negative silent code)
-    ∙ ap (λ (words : List ℕ). asked_words request other ++ words) (words-right negative silent code)
+    told-apart rules (same_bytes request other) (byte_words rules request other) (answered negative code) (none_outcome silent) (Some reply) None (other-left negative silent code)
+    ∙ ap (λ (words : List ℕ). asked_words rules request other ++ words) (words-right negative silent code)
 
 -- and of which neither has one
-pub both-none : (request other : List ℕ) → is_suppressing request ≢ is_suppressing other
-    → differ (exchange request None) (exchange other None)
-    ≡ asked_words request other ++ (none_words A (is_suppressing request) ++ between (none_outcome (is_suppressing request)) ++ none_words B (is_suppressing other))
-both-none request other apart =
-    told-apart (same_bytes request other) (byte_words request other) (none_outcome (is_suppressing request)) (none_outcome (is_suppressing other)) None None
+pub both-none : (rules : List RuleValue) (request other : List ℕ) → is_suppressing request ≢ is_suppressing other
+    → differ rules (exchange request None) (exchange other None)
+    ≡ asked_words rules request other ++ (none_words A (is_suppressing request) ++ between (none_outcome (is_suppressing request)) ++ none_words B (is_suppressing other))
+both-none rules request other apart =
+    told-apart rules (same_bytes request other) (byte_words rules request other) (none_outcome (is_suppressing request)) (none_outcome (is_suppressing other)) None None
     (other-none (is_suppressing request) (is_suppressing other) apart)
-    ∙ ap (λ (words : List ℕ). asked_words request other ++ words) (words-both (is_suppressing request) (is_suppressing other))
+    ∙ ap (λ (words : List ℕ). asked_words rules request other ++ words) (words-both (is_suppressing request) (is_suppressing other))

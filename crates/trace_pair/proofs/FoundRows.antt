@@ -8,11 +8,11 @@ use Rattle.uds_difference.specs.Rows.{AreBeside, rows_of}
 use Rattle.uds_difference.specs.declared.row.Row.{Row}
 use Rattle.uds_difference.specs.declared.row.Row.TheVariants.{Same, Changed, OnlyLeft, OnlyRight}
 use Rattle.trace_pair.specs.declared.item_row.RowPlace.{RowPlace}
-use Rattle.trace_pair.specs.declared.log.PairLog.{PairLog}
-use Rattle.trace_pair.specs.declared.log.PairLog.TheVariants.{A, B}
+use Rattle.pair_words.specs.declared.log.PairLog.{PairLog}
+use Rattle.pair_words.specs.declared.log.PairLog.TheVariants.{A, B}
 use Rattle.trace_pair.specs.Counterparts.{has_number, row_behind, row_from}
 use Rattle.trace_pair.specs.ItemRows.{place_in}
-use Rattle.trace_pair.specs.Logs.{has_item}
+use Rattle.pair_words.specs.Logs.{has_item}
 use Rattle.trace_pair.specs.RowLaws.{EachItemHasItsRow, IsFound}
 use Rattle.uds_difference.proofs.Promises.{rows_are_beside}
 use Rattle.trace_pair.proofs.RowsWith.{row-here, row-later}

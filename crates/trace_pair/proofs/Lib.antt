@@ -1,14 +1,3 @@
-pub mod Pieces
-pub mod NameLetters
-pub mod Cells
-pub mod LineCells
-mod SeenMarks
-mod OwnLines
-mod CountedBytes
-mod AloneBytes
-pub mod CountedColumns
-pub mod LastDigits
-pub mod LineNumbers
 pub mod Tables
 pub mod Standings
 pub mod FoldParts

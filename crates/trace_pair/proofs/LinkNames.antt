@@ -7,7 +7,7 @@ use Rattle.std.proofs.lemmas.Fmt.{decimal_injective}
 use Rattle.uds_difference.specs.declared.row.Row.{Row}
 use Rattle.uds_difference.specs.declared.row.Row.TheVariants.{Same, Changed, OnlyLeft, OnlyRight}
 use Rattle.trace_pair.specs.ChangeWords.{where_link}
-use Rattle.trace_pair.specs.DifferenceNames.{difference_name}
+use Rattle.pair_words.specs.DifferenceNames.{difference_name}
 use Rattle.trace_pair.specs.Differences.{first_unlisted, list_end}
 use Rattle.trace_pair.specs.ItemRows.{row_start, way_on}
 use Rattle.trace_pair.specs.LinkLaws.{HasAttribute, HasLinkTo, LinksSpellIdentifiers}

@@ -8,7 +8,7 @@ use Rattle.trace_report.specs.Items.{begins, rows_before}
 use Rattle.trace_report.specs.Rows.{RowValue, message, no_answer, dropped, ended, unfinished}
 use Rattle.trace_pair.specs.Losses.{count_begun, first_row, is_loss, losses_behind, losses_from, losses_in_front, losses_of}
 use Rattle.trace_pair.specs.proving.Losing.{lost}
-use Rattle.trace_pair.proofs.Pieces.{cut-joined, cut-none}
+use Rattle.pair_words.proofs.Promises.{cut-joined, cut-none}
 
 -- a row with which an item begins tells no loss
 no-loss : (row : RowValue) → begins row ≡ true → is_loss row ≡ false

@@ -11,7 +11,7 @@ use Rattle.trace_pair.specs.LossLaws.{EachLossStandsOnce}
 use Rattle.trace_pair.specs.Losses.{first_row, losses_of}
 use Rattle.trace_pair.specs.proving.Losing.{lost}
 use Rattle.trace_pair.proofs.LossPlaces.{begins-next, begins-none, first-later, first-some, first-up, losses-are-lost, lost-joined, lost-passes, piece}
-use Rattle.trace_pair.proofs.Pieces.{cut-joined, cut-none}
+use Rattle.pair_words.proofs.Promises.{cut-joined, cut-none}
 
 -- the losses of so many items, from this one on
 losses-joined : (rows : List RowValue) (item count : ℕ)

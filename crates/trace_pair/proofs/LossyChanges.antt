@@ -7,7 +7,7 @@ use Rattle.shown_rows.specs.declared.changes.Change.{Change}
 use Rattle.shown_rows.specs.Changes.{changes_from}
 use Rattle.shown_rows.specs.Rows.{left_in, right_in}
 use Rattle.trace_report.specs.Session.{SessionValue}
-use Rattle.trace_pair.specs.declared.log.PairLog.{PairLog}
+use Rattle.pair_words.specs.declared.log.PairLog.{PairLog}
 use Rattle.trace_pair.specs.Verdict.{is_lossy, lossy_count}
 use Rattle.trace_pair.specs.proving.Changing.{count_if, is_lossy_if, lossy_if}
 use Rattle.trace_pair.proofs.ChangeSteps.{found_at, none-begins, one-begins}

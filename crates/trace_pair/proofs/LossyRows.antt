@@ -4,7 +4,7 @@ use Rattle.std.specs.Prelude.{◌||◌, nat_lt, if◌then◌else◌}
 use Rattle.std.specs.List.{list_any}
 use Rattle.std.proofs.lemmas.Bool.{lt-ltb}
 use Rattle.trace_report.specs.Rows.{RowValue}
-use Rattle.trace_pair.specs.Logs.{has_item, items_before}
+use Rattle.pair_words.specs.Logs.{has_item, items_before}
 use Rattle.trace_pair.specs.Losses.{is_loss}
 use Rattle.trace_pair.specs.LossLaws.{LossyWhereLost, rows_at}
 use Rattle.trace_pair.specs.Verdict.{lossy_by}

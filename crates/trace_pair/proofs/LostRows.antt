@@ -6,11 +6,11 @@ use Rattle.std.proofs.lemmas.Bool.{ltb-false, ltb-true}
 use Rattle.std.proofs.lemmas.List.{take_all}
 use Rattle.text_parts.proofs.Promises.{IsLeft, same-rest, said-whole, say-more}
 use Rattle.trace_report.specs.Rows.{RowValue}
-use Rattle.trace_pair.specs.declared.log.PairLog.{PairLog}
+use Rattle.pair_words.specs.declared.log.PairLog.{PairLog}
 use Rattle.trace_pair.specs.Losses.{is_loss, loss_line}
 use Rattle.trace_pair.specs.proving.Losing.{loss_if, lost, lost_if}
 use Rattle.trace_pair.proofs.LossPlaces.{piece}
-use Rattle.trace_pair.proofs.Pieces.{cut-first, cut-none, cut-past, past-end}
+use Rattle.pair_words.proofs.Promises.{cut-first, cut-none, cut-past, past-end}
 
 -- what is lost with a row in front, if there is one
 abbrev pub with_loss : Option RowValue → List RowValue → List RowValue

@@ -22,12 +22,12 @@ module _ (are_the_meaning : ItemsAreTheMeaning) (settings : Settings) where
   own_where_items : (log : List ℕ) (session : SessionValue) → KeepsOne MESSAGE_LIMIT settings log (Ok session) → values_in session ≢ [] → HasOwnFrame settings log
   own_where_items log session (meanings, read, is) some =
       has_own_frame settings log meanings read.1
-      (λ none. some (ap values_in is ∙ ap (λ (T : List Entry). values_in (session_of MESSAGE_LIMIT T (summary_of MESSAGE_LIMIT settings log meanings))) none))
+      (λ none. some (ap values_in is ∙ ap (λ (T : List Entry). values_in (session_of MESSAGE_LIMIT settings.rules T (summary_of MESSAGE_LIMIT settings log meanings))) none))
 
   -- and it means one
   means_where_items : (log : List ℕ) (session : SessionValue) → KeepsOne MESSAGE_LIMIT settings log (Ok session) → values_in session ≢ [] → MeansItem MESSAGE_LIMIT settings log
   means_where_items log session (meanings, read, is) some =
-      (values_in session, record { meanings = meanings; means = read.1; found = ap values_in is ∙ are_the_meaning (trace settings meanings) }, some)
+      (values_in session, record { meanings = meanings; means = read.1; found = ap values_in is ∙ are_the_meaning settings.rules (trace settings meanings) }, some)
 
   -- where one of two sessions has an item, the first log means one, or the second one has a frame
   needed_where_either : (one other : List ℕ) (held : KeptSessionsValue) → KeepsTwo MESSAGE_LIMIT settings one other (Ok held) → (values_in held.left ≢ []) ⊎ (values_in held.right ≢ [])

@@ -10,7 +10,7 @@ use Rattle.shown_rows.specs.declared.changes.Change.{Change}
 use Rattle.shown_rows.specs.Changes.{begins_change, change, change_length, changes, changes_from}
 use Rattle.shown_rows.specs.Folds.{context_behind, is_shown}
 use Rattle.shown_rows.specs.Rows.{left_in, right_in}
-use Rattle.trace_pair.specs.declared.log.PairLog.TheVariants.{A, B}
+use Rattle.pair_words.specs.declared.log.PairLog.TheVariants.{A, B}
 use Rattle.trace_pair.specs.ItemRows.{begun_number}
 use Rattle.trace_pair.specs.TableLaws.{EachItemStandsOnce, EachRowStandsOnce, item_place, kind_of, rows_in, rows_of_table, table_rows}
 use Rattle.trace_pair.specs.LinkLaws.{LinksHaveTargets, identifier}

@@ -7,11 +7,11 @@ use Rattle.shown_rows.specs.Rows.{changes_within, left_in, right_in}
 use Rattle.uds_difference.specs.declared.row.Row.{Row}
 use Rattle.uds_difference.specs.declared.row.Row.TheVariants.{Same, Changed, OnlyLeft, OnlyRight}
 use Rattle.trace_pair.specs.declared.item_row.RowPlace.{RowPlace}
-use Rattle.trace_pair.specs.declared.log.PairLog.{PairLog}
-use Rattle.trace_pair.specs.declared.log.PairLog.TheVariants.{A, B}
+use Rattle.pair_words.specs.declared.log.PairLog.{PairLog}
+use Rattle.pair_words.specs.declared.log.PairLog.TheVariants.{A, B}
 use Rattle.trace_pair.specs.Counterparts.{has_number, marks_of, row_behind, row_from, row_with}
 use Rattle.trace_pair.specs.ItemRows.{place_in}
-use Rattle.trace_pair.specs.Logs.{has_item}
+use Rattle.pair_words.specs.Logs.{has_item}
 
 -- as few items of a log stand before a row as of both
 pub place-below : (log : PairLog) (left right most : ℕ) (kind : Row) → left < most → right < most → place_in log (row_behind left right kind) < most

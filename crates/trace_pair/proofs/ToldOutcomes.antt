@@ -5,21 +5,22 @@ use Rattle.std.proofs.lemmas.List.{append_cancel_left, length-append}
 use Rattle.std.specs.Prelude.{codes, get_or, option_map, if◌then◌else◌}
 use Rattle.direction.specs.declared.Dir.{Dir}
 use Rattle.uds_message.specs.Message.{is_negative_response, is_suppressing, response_code}
+use Rattle.uds_rules.specs.Rule.{RuleValue}
 use Rattle.uds_difference.specs.declared.row.Row.{Row}
 use Rattle.uds_difference.specs.declared.row.Row.TheVariants.{Same, Changed, OnlyLeft, OnlyRight}
 use Rattle.uds_exchange.specs.Meaning.{ItemValue, exchange, stray}
 use Rattle.trace_report.specs.Items.{PlacedItemValue, RowMessageValue, item_value}
-use Rattle.trace_pair.specs.LongNames.{parted_role_words}
+use Rattle.trace_pair.specs.PartedRoles.{parted_role_words}
 use Rattle.trace_report.specs.Roles.{is_request_role}
 use Rattle.trace_report.specs.declared.roles.MessageRole.{MessageRole}
 use Rattle.trace_report.specs.declared.roles.MessageRole.TheVariants as role
 use Rattle.trace_pair.specs.ItemRows.{answer_data, message_of_both, other_outcomes, outcome_by, outcome_line, same_outcomes, told, told_if}
 use Rattle.trace_pair.specs.ItemWords.{came_of, outcome_mark, outcome_note, outcome_words, same_outcome}
 use Rattle.trace_pair.specs.OutcomeLaws.{HasNone, UnansweredHasNone, none_outcome, none_told, told_whole}
-use Rattle.trace_pair.specs.Logs.{letter_mark}
+use Rattle.pair_words.specs.Logs.{letter_mark}
 use Rattle.trace_pair.specs.ToldItems.{no_answer_text, told_answer, told_item, told_message}
-use Rattle.trace_pair.specs.declared.log.PairLog.{PairLog}
-use Rattle.trace_pair.specs.declared.log.PairLog.TheVariants.{A, B}
+use Rattle.pair_words.specs.declared.log.PairLog.{PairLog}
+use Rattle.pair_words.specs.declared.log.PairLog.TheVariants.{A, B}
 use Rattle.trace_pair.specs.declared.outcome.Outcome.{Outcome}
 use Rattle.trace_pair.specs.declared.outcome.Outcome.TheVariants.{Positive, Refused, Silent, Unanswered}
 use Rattle.trace_pair.proofs.DifferingOutcomes.{answered, both-none, left-none, right-none}
@@ -87,16 +88,16 @@ marks_of (Refused code) false shown is = absurd (never_at 1 is refl)
 marks_of Silent false shown is = absurd (never_at 0 is refl)
 marks_of Unanswered false shown is = refl
 
-mark-none : (log : PairLog) (request : List ℕ) (answer : Option RowMessageValue) (silent : Bool)
-    → outcome_line log request answer ≡ codes "<div>" ++ letter_mark log ++ codes "&#8594; <mark>" ++ outcome_mark (none_outcome silent) ++ codes "</mark></div>"
+mark-none : (rules : List RuleValue) (log : PairLog) (request : List ℕ) (answer : Option RowMessageValue) (silent : Bool)
+    → outcome_line rules log request answer ≡ codes "<div>" ++ letter_mark log ++ codes "&#8594; <mark>" ++ outcome_mark (none_outcome silent) ++ codes "</mark></div>"
     → (answer ≡ None) × (is_suppressing request ≡ silent)
-mark-none A request answer silent is =
-    came-by request answer silent (marks_of (outcome_by request answer) silent (answer_data answer)
-    (append_cancel_left (codes "<div>" ++ letter_mark A ++ codes "&#8594; <mark>") (outcome_mark (outcome_by request answer) ++ codes "</mark>" ++ answer_data answer ++ codes "</div>")
+mark-none rules A request answer silent is =
+    came-by request answer silent (marks_of (outcome_by request answer) silent (answer_data rules answer)
+    (append_cancel_left (codes "<div>" ++ letter_mark A ++ codes "&#8594; <mark>") (outcome_mark (outcome_by request answer) ++ codes "</mark>" ++ answer_data rules answer ++ codes "</div>")
     (outcome_mark (none_outcome silent) ++ codes "</mark></div>") is))
-mark-none B request answer silent is =
-    came-by request answer silent (marks_of (outcome_by request answer) silent (answer_data answer)
-    (append_cancel_left (codes "<div>" ++ letter_mark B ++ codes "&#8594; <mark>") (outcome_mark (outcome_by request answer) ++ codes "</mark>" ++ answer_data answer ++ codes "</div>")
+mark-none rules B request answer silent is =
+    came-by request answer silent (marks_of (outcome_by request answer) silent (answer_data rules answer)
+    (append_cancel_left (codes "<div>" ++ letter_mark B ++ codes "&#8594; <mark>") (outcome_mark (outcome_by request answer) ++ codes "</mark>" ++ answer_data rules answer ++ codes "</div>")
     (outcome_mark (none_outcome silent) ++ codes "</mark></div>") is))
 
 -- ---- in a row
@@ -130,9 +131,9 @@ text_of true false is = absurd (never_at 2 is refl)
 text_of false true is = absurd (never_at 2 is refl)
 text_of false false is = refl
 
-answer-none : (request : List ℕ) (answer : Option RowMessageValue) (silent : Bool) → told_answer request answer ≡ no_answer_text silent → (answer ≡ None) × (is_suppressing request ≡ silent)
-answer-none request None silent is = (refl, text_of (is_suppressing request) silent is)
-answer-none request (Some reply) silent is = absurd (told-else reply.role reply.dir reply.bytes _ silent is)
+answer-none : (rules : List RuleValue) (request : List ℕ) (answer : Option RowMessageValue) (silent : Bool) → told_answer rules request answer ≡ no_answer_text silent → (answer ≡ None) × (is_suppressing request ≡ silent)
+answer-none rules request None silent is = (refl, text_of (is_suppressing request) silent is)
+answer-none rules request (Some reply) silent is = absurd (told-else reply.role reply.dir reply.bytes _ silent is)
 
 -- what an item is that begins with a message, which is a request or not
 abbrev value_by : Bool → Dir → List ℕ → Option RowMessageValue → ItemValue
@@ -143,25 +144,27 @@ value-none : (asks : Bool) (side : Dir) (bytes : List ℕ) (answer : Option RowM
 value-none true side bytes answer silent is none silence = (ap (option_map (λ (reply : RowMessageValue). reply.bytes)) none, silence)
 value-none false side bytes answer silent is none silence = absurd cc
 
-behind-none : (asks : Bool) (side : Dir) (bytes : List ℕ) (answer : Option RowMessageValue) (silent : Bool)
-    → (if asks then codes " &#8594; " ++ told_answer bytes answer else []) ≡ none_told silent → HasNone silent (value_by asks side bytes answer)
-behind-none true side bytes answer silent is =
-    let none = answer-none bytes answer silent (append_cancel_left (codes " &#8594; ") (told_answer bytes answer) (no_answer_text silent) is) in
+behind-none : (rules : List RuleValue) (asks : Bool) (side : Dir) (bytes : List ℕ) (answer : Option RowMessageValue) (silent : Bool)
+    → (if asks then codes " &#8594; " ++ told_answer rules bytes answer else []) ≡ none_told silent → HasNone silent (value_by asks side bytes answer)
+behind-none rules true side bytes answer silent is =
+    let none = answer-none rules bytes answer silent (append_cancel_left (codes " &#8594; ") (told_answer rules bytes answer) (no_answer_text silent) is) in
     value-none true side bytes answer silent refl none.0 none.1
-behind-none false side bytes answer silent is = absurd cc
+behind-none rules false side bytes answer silent is = absurd cc
 
-item-none : (item : PlacedItemValue) (silent : Bool) → told_item item ≡ told_message item.begin ++ none_told silent → HasNone silent (item_value item)
-item-none item silent is = behind-none (is_request_role item.begin.role) item.begin.dir item.begin.bytes item.answer silent (append_cancel_left (told_message item.begin) _ _ is)
+item-none : (rules : List RuleValue) (item : PlacedItemValue) (silent : Bool) → told_item rules item ≡ told_message rules item.begin ++ none_told silent → HasNone silent (item_value item)
+item-none rules item silent is = behind-none rules (is_request_role item.begin.role) item.begin.dir item.begin.bytes item.answer silent (append_cancel_left (told_message rules item.begin) _ _ is)
 
-if-none : (there : Option PlacedItemValue) (item : PlacedItemValue) (silent : Bool) → there ≡ Some item → told_if there ≡ told_message item.begin ++ none_told silent → HasNone silent (item_value item)
-if-none there item silent is text = item-none item silent (subst (λ (o : Option PlacedItemValue). told_if o ≡ told_message item.begin ++ none_told silent) is text)
+if-none : (rules : List RuleValue) (there : Option PlacedItemValue) (item : PlacedItemValue) (silent : Bool) → there ≡ Some item
+    → told_if rules there ≡ told_message rules item.begin ++ none_told silent → HasNone silent (item_value item)
+if-none rules there item silent is text =
+    item-none rules item silent (subst (λ (o : Option PlacedItemValue). told_if rules o ≡ told_message rules item.begin ++ none_told silent) is text)
 
-row-none : (kind : Row) (one other : Option PlacedItemValue) (item : PlacedItemValue) (silent : Bool) → told_whole kind one other ≡ Some item
-    → told kind one other ≡ told_message item.begin ++ none_told silent → HasNone silent (item_value item)
-row-none Same one other item silent is text = if-none other item silent is text
-row-none Changed one other item silent is text = absurd cc
-row-none OnlyLeft one other item silent is text = if-none one item silent is text
-row-none OnlyRight one other item silent is text = if-none other item silent is text
+row-none : (rules : List RuleValue) (kind : Row) (one other : Option PlacedItemValue) (item : PlacedItemValue) (silent : Bool) → told_whole kind one other ≡ Some item
+    → told rules kind one other ≡ told_message rules item.begin ++ none_told silent → HasNone silent (item_value item)
+row-none rules Same one other item silent is text = if-none rules other item silent is text
+row-none rules Changed one other item silent is text = absurd cc
+row-none rules OnlyLeft one other item silent is text = if-none rules one item silent is text
+row-none rules OnlyRight one other item silent is text = if-none rules other item silent is text
 
 -- ---- in a row of two items that changed
 
@@ -184,28 +187,28 @@ pub record NoneInBoth (request other : List ℕ) (answer reply : Option RowMessa
   pub request_is : is_suppressing request ≡ silent
   pub other_is : is_suppressing other ≡ silent
 
-same-none : (request other : List ℕ) (answer reply : Option RowMessageValue) (silent : Bool) → same_outcome (outcome_by request answer) (outcome_by other reply) ≡ true
-    → same_outcomes request answer reply ≡ no_answer_text silent → NoneInBoth request other answer reply silent
-same-none request other (Some one) (Some two) silent alike is = absurd (told-else one.role one.dir one.bytes _ silent is)
-same-none request other (Some one) None silent alike is = absurd (told-else one.role one.dir one.bytes _ silent is)
-same-none request other None (Some two) silent alike is = absurd (unlike (is_suppressing request) (is_negative_response two.bytes) (response_code two.bytes) alike)
-same-none request other None None silent alike is =
+same-none : (rules : List RuleValue) (request other : List ℕ) (answer reply : Option RowMessageValue) (silent : Bool) → same_outcome (outcome_by request answer) (outcome_by other reply) ≡ true
+    → same_outcomes rules request answer reply ≡ no_answer_text silent → NoneInBoth request other answer reply silent
+same-none rules request other (Some one) (Some two) silent alike is = absurd (told-else one.role one.dir one.bytes _ silent is)
+same-none rules request other (Some one) None silent alike is = absurd (told-else one.role one.dir one.bytes _ silent is)
+same-none rules request other None (Some two) silent alike is = absurd (unlike (is_suppressing request) (is_negative_response two.bytes) (response_code two.bytes) alike)
+same-none rules request other None None silent alike is =
     let silence = text_of (is_suppressing request) silent is in
     record { answer_is = refl; reply_is = refl; request_is = silence; other_is = like (is_suppressing request) (is_suppressing other) alike ∙ silence }
 
 -- what stands behind the requests of two items, of which the first one is a request
-pair-none : (asks same : Bool) (request other : List ℕ) (answer reply : Option RowMessageValue) (silent : Bool) → same_outcome (outcome_by request answer) (outcome_by other reply) ≡ same
-    → (if asks then (if same then codes " &#8594; " ++ same_outcomes request answer reply else other_outcomes request answer other reply) else []) ≡ none_told silent
+pair-none : (rules : List RuleValue) (asks same : Bool) (request other : List ℕ) (answer reply : Option RowMessageValue) (silent : Bool) → same_outcome (outcome_by request answer) (outcome_by other reply) ≡ same
+    → (if asks then (if same then codes " &#8594; " ++ same_outcomes rules request answer reply else other_outcomes rules request answer other reply) else []) ≡ none_told silent
     → (asks ≡ true) × NoneInBoth request other answer reply silent
-pair-none true true request other answer reply silent alike is =
-    (refl, same-none request other answer reply silent alike (append_cancel_left (codes " &#8594; ") (same_outcomes request answer reply) (no_answer_text silent) is))
-pair-none true false request other answer reply silent alike is = absurd (never_at 0 is refl)
-pair-none false same request other answer reply silent alike is = absurd cc
+pair-none rules true true request other answer reply silent alike is =
+    (refl, same-none rules request other answer reply silent alike (append_cancel_left (codes " &#8594; ") (same_outcomes rules request answer reply) (no_answer_text silent) is))
+pair-none rules true false request other answer reply silent alike is = absurd (never_at 0 is refl)
+pair-none rules false same request other answer reply silent alike is = absurd cc
 
-changed-none : (one other : PlacedItemValue) (silent : Bool) → is_request_role other.begin.role ≡ true
-    → told Changed (Some one) (Some other) ≡ message_of_both one.begin other.begin ++ none_told silent → HasNone silent (item_value one) × HasNone silent (item_value other)
-changed-none one other silent asks is =
-    let both = pair-none (is_request_role one.begin.role) _ one.begin.bytes other.begin.bytes one.answer other.answer silent refl (append_cancel_left (message_of_both one.begin other.begin) _ _ is) in (
+changed-none : (rules : List RuleValue) (one other : PlacedItemValue) (silent : Bool) → is_request_role other.begin.role ≡ true
+    → told rules Changed (Some one) (Some other) ≡ message_of_both rules one.begin other.begin ++ none_told silent → HasNone silent (item_value one) × HasNone silent (item_value other)
+changed-none rules one other silent asks is =
+    let both = pair-none rules (is_request_role one.begin.role) _ one.begin.bytes other.begin.bytes one.answer other.answer silent refl (append_cancel_left (message_of_both rules one.begin other.begin) _ _ is) in (
       value-none (is_request_role one.begin.role) one.begin.dir one.begin.bytes one.answer silent both.0 both.1.answer_is both.1.request_is,
       value-none (is_request_role other.begin.role) other.begin.dir other.begin.bytes other.answer silent asks both.1.reply_is both.1.other_is,
     )
@@ -215,7 +218,7 @@ unanswered_has_none = record {
   came = came-none;
   in_line = line-none;
   in_row = row-none;
-  where_same = λ one other silent same is. let none = item-none other silent is in (subst (HasNone silent) (sym same) none, none);
+  where_same = λ rules one other silent same is. let none = item-none rules other silent is in (subst (HasNone silent) (sym same) none, none);
   where_changed = changed-none;
   in_mark = mark-none;
   of_left = left-none;

@@ -6,10 +6,11 @@ use Rattle.uds_exchange.specs.Meaning.{ItemValue}
 use Rattle.uds_difference.specs.declared.row.Row.{Row}
 use Rattle.uds_difference.specs.declared.row.Row.TheVariants.{Same, Changed, OnlyLeft, OnlyRight}
 use Rattle.shown_rows.specs.declared.changes.Change.{Change}
-use Rattle.trace_pair.specs.declared.log.PairLog.{PairLog}
-use Rattle.trace_pair.specs.declared.log.PairLog.TheVariants.{A, B}
-use Rattle.trace_pair.specs.DifferenceNames.{difference_name}
-use Rattle.trace_pair.specs.Logs.{letter}
+use Rattle.uds_rules.specs.Rule.{RuleValue}
+use Rattle.pair_words.specs.declared.log.PairLog.{PairLog}
+use Rattle.pair_words.specs.declared.log.PairLog.TheVariants.{A, B}
+use Rattle.pair_words.specs.DifferenceNames.{difference_name}
+use Rattle.pair_words.specs.Logs.{letter}
 use Rattle.trace_pair.specs.ItemWords.{differ, item_title, outcome_note}
 
 -- the change stands where a memory has room for it
@@ -37,22 +38,23 @@ tag OnlyLeft = codes "only in A"
 tag OnlyRight = codes "only in B"
 
 -- a change of two items, if they are there
-abbrev pub pair_words : Option ItemValue → Option ItemValue → List ℕ
-pair_words (Some x) (Some y) = item_title x ++ codes ": " ++ differ x y
-pair_words _ _ = []
+abbrev pub pair_words : List RuleValue → Option ItemValue → Option ItemValue → List ℕ
+pair_words rules (Some x) (Some y) = item_title rules x ++ codes ": " ++ differ rules x y
+pair_words rules _ _ = []
 
 -- so many items that stand alone, from the place of the first one on
-abbrev pub run_words : List ItemValue → ℕ → ℕ → List ℕ
-run_words items first count =
-    if count == 1 then text_if_some item_title (slice_get items first) ++ text_if_some outcome_note (slice_get items first)
-    else decimal count ++ codes " items, from " ++ text_if_some item_title (slice_get items first) ++ codes " to " ++ text_if_some item_title (slice_get items (first + count - 1))
+abbrev pub run_words : List RuleValue → List ItemValue → ℕ → ℕ → List ℕ
+run_words rules items first count =
+    if count == 1 then text_if_some (item_title rules) (slice_get items first) ++ text_if_some outcome_note (slice_get items first)
+    else decimal count ++ codes " items, from " ++ text_if_some (item_title rules) (slice_get items first) ++ codes " to "
+    ++ text_if_some (item_title rules) (slice_get items (first + count - 1))
 
 -- what a change is
-abbrev pub what_text : List ItemValue → List ItemValue → Row → ℕ → ℕ → ℕ → List ℕ
-what_text xs ys Same left right count = []
-what_text xs ys Changed left right count = pair_words (slice_get xs left) (slice_get ys right)
-what_text xs ys OnlyLeft left right count = run_words xs left count
-what_text xs ys OnlyRight left right count = run_words ys right count
+abbrev pub what_text : List RuleValue → List ItemValue → List ItemValue → Row → ℕ → ℕ → ℕ → List ℕ
+what_text rules xs ys Same left right count = []
+what_text rules xs ys Changed left right count = pair_words rules (slice_get xs left) (slice_get ys right)
+what_text rules xs ys OnlyLeft left right count = run_words rules xs left count
+what_text rules xs ys OnlyRight left right count = run_words rules ys right count
 
 -- which log is not clean at a change, if one isn't
 abbrev pub unclean_note : Bool → Bool → List ℕ
@@ -67,7 +69,7 @@ where_link true number place = codes "<a href=\"#" ++ difference_name number ++ 
 where_link false number place = place
 
 -- a change in a line
-abbrev pub change_line : Bool → ℕ → Bool → Bool → List ItemValue → List ItemValue → Change → List ℕ
-change_line linked number left_lossy right_lossy xs ys here =
+abbrev pub change_line : List RuleValue → Bool → ℕ → Bool → Bool → List ItemValue → List ItemValue → Change → List ℕ
+change_line rules linked number left_lossy right_lossy xs ys here =
     codes "<span class=\"where\">" ++ where_link linked number (where_text here.kind here.left here.right here.count) ++ codes "</span> <b class=\"tag\">" ++ tag here.kind
-    ++ codes "</b> <span class=\"what\">" ++ what_text xs ys here.kind here.left here.right here.count ++ unclean_note left_lossy right_lossy ++ codes "</span>"
+    ++ codes "</b> <span class=\"what\">" ++ what_text rules xs ys here.kind here.left here.right here.count ++ unclean_note left_lossy right_lossy ++ codes "</span>"

@@ -9,11 +9,11 @@ use Rattle.trace_report.specs.Roles.{is_answer_role, begins_item}
 use Rattle.trace_report.specs.Session.{SessionValue}
 use Rattle.trace_report.specs.declared.roles.MessageRole.{MessageRole}
 use Rattle.trace_pair.specs.declared.item_row.RowPlace.{RowPlace}
-use Rattle.trace_pair.specs.declared.log.PairLog.{PairLog}
-use Rattle.trace_pair.specs.declared.log.PairLog.TheVariants.{A, B}
+use Rattle.pair_words.specs.declared.log.PairLog.{PairLog}
+use Rattle.pair_words.specs.declared.log.PairLog.TheVariants.{A, B}
 use Rattle.trace_pair.specs.ItemRows.{outcome_by, place_in}
 use Rattle.trace_pair.specs.ItemWords.{same_outcome}
-use Rattle.trace_pair.specs.Logs.{has_item}
+use Rattle.pair_words.specs.Logs.{has_item}
 
 -- what a chart is of: a log, and both sessions with the rows that set them side by side
 pub record Charted : Type 0 where

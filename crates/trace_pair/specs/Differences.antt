@@ -3,8 +3,8 @@ use Rattle.std.specs.Prelude.{ℕ, ◌+◌, ◌-◌, ◌==◌, true, List, [], �
 use Rattle.std.specs.Fmt.{decimal}
 use Rattle.shown_rows.specs.declared.changes.Change.{Change}
 use Rattle.trace_report.specs.Session.{SessionValue}
-use Rattle.trace_pair.specs.declared.log.PairLog.TheVariants.{A, B}
-use Rattle.trace_pair.specs.DifferenceNames.{difference_name}
+use Rattle.pair_words.specs.declared.log.PairLog.TheVariants.{A, B}
+use Rattle.pair_words.specs.DifferenceNames.{difference_name}
 use Rattle.trace_pair.specs.ChangeWords.{change_line}
 use Rattle.trace_pair.specs.Sessions.{values_in}
 use Rattle.trace_pair.specs.Verdict.{is_lossy}
@@ -24,7 +24,7 @@ first_unlisted = listed_differences + 1
 -- the change of a number in a line, with a link to it
 abbrev pub difference_line : SessionValue → SessionValue → ℕ → Change → List ℕ
 difference_line left right number here =
-    codes "<li>" ++ change_line true number (is_lossy A left here) (is_lossy B right here) (values_in left) (values_in right) here ++ codes "\n"
+    codes "<li>" ++ change_line left.rules true number (is_lossy A left here) (is_lossy B right here) (values_in left) (values_in right) here ++ codes "\n"
 
 -- the start of the fold of so many differences more than stand in the open
 abbrev pub more_start : ℕ → List ℕ

@@ -1,7 +1,6 @@
 -- The first difference as recorded: of each log the rows around it, with a mark at each byte that differs.
 use Prim.Native.Nat.{zero, suc}
 use Rattle.std.specs.Prelude.{ℕ, ◌+◌, ◌-◌, ◌==◌, Bool, true, false, not, ◌||◌, List, [], ◌∷◌, ◌++◌, codes, drop, length, max, min, nat_le, take, Option, Some, None, slice_get, if◌then◌else◌}
-use Rattle.std.specs.Fmt.{decimal}
 use Rattle.byte_columns.specs.declared.column.Column.{Column}
 use Rattle.byte_columns.specs.Columns.{beside}
 use Rattle.direction.specs.declared.Dir.{Dir}
@@ -14,19 +13,22 @@ use Rattle.trace_report.specs.Rows.{RowValue, message, no_answer, dropped, ended
 use Rattle.trace_report.specs.MissingRows.{dropped_row, ended_row, no_answer_row, unfinished_row}
 use Rattle.trace_report.specs.MessageRows.{message_front, note_text}
 use Rattle.trace_report.specs.Session.{SessionValue}
-use Rattle.trace_report.specs.Data.{data_text}
-use Rattle.trace_report.specs.Letters.{has_word}
+use Rattle.shown_bytes.specs.Data.{data_text, known_length}
+use Rattle.uds_rules.specs.Rule.{RuleValue}
+use Rattle.shown_bytes.specs.Letters.{has_word}
 use Rattle.trace_report.specs.declared.row.Arrow.TheVariants as arrow
 use Rattle.trace_report.specs.declared.row.MessagePlace.{MessagePlace}
 use Rattle.trace_report.specs.declared.roles.MessageRole.{MessageRole}
-use Rattle.trace_pair.specs.declared.column_lines.ShownLogs.TheVariants.{Only}
-use Rattle.trace_pair.specs.declared.log.PairLog.{PairLog}
-use Rattle.trace_pair.specs.declared.log.PairLog.TheVariants.{A, B}
+use Rattle.pair_words.specs.declared.column_lines.ShownLogs.TheVariants.{Only}
+use Rattle.pair_words.specs.declared.log.PairLog.{PairLog}
+use Rattle.pair_words.specs.declared.log.PairLog.TheVariants.{A, B}
+use Rattle.pair_words.specs.ChartWords.{body_start, chart_end, chart_head, items_end}
 use Rattle.trace_pair.specs.ChangeWords.{change_line}
-use Rattle.trace_pair.specs.ColumnLines.{lines_text}
+use Rattle.pair_words.specs.ColumnLines.{lines_text}
 use Rattle.trace_pair.specs.Counterparts.{Charted, Marked, counterpart, is_other, marks_at}
-use Rattle.trace_pair.specs.Logs.{lettered_name, own_count}
-use Rattle.trace_pair.specs.LongNames.{parted_role_words}
+use Rattle.trace_pair.specs.ItemRows.{are_masked}
+use Rattle.pair_words.specs.Logs.{lettered_name, own_count}
+use Rattle.trace_pair.specs.PartedRoles.{parted_role_words}
 use Rattle.trace_pair.specs.Losses.{first_row}
 use Rattle.trace_pair.specs.Sessions.{values_in}
 use Rattle.trace_pair.specs.Verdict.{is_lossy}
@@ -92,25 +94,31 @@ abbrev pub beside_of : PairLog → List ℕ → List ℕ → List Column
 beside_of A own other = beside own other
 beside_of B own other = beside other own
 
--- the bytes of a message: beside the one of the other log
-abbrev pub chart_data : PairLog → List ℕ → Option (List ℕ) → List ℕ
-chart_data log bytes None = data_text bytes
-chart_data log bytes (Some other) = lines_text (Only log) (has_word bytes || has_word other) (beside_of log bytes other)
+-- the bytes of a message that rules have left, beside the one of the other log, where they mask neither
+abbrev pub beside_text : List RuleValue → PairLog → List ℕ → List ℕ → List ℕ
+beside_text rules log bytes other =
+    if are_masked rules bytes other then data_text rules bytes
+    else lines_text (Only log) (has_word bytes || has_word other) (beside_of log bytes other)
+
+-- the bytes of a message: beside the one of the other log, if there is one
+abbrev pub chart_data : List RuleValue → PairLog → List ℕ → Option (List ℕ) → List ℕ
+chart_data rules log bytes None = data_text rules bytes
+chart_data rules log bytes (Some other) = beside_text rules log bytes other
 
 -- the row of a message in the chart of a log, which marks so much of its item: when it was, what it is, its bytes, and its
 -- arrow
-abbrev pub chart_message : PairLog → Option Marked → ℕ → MessageRole → Dir → MessagePlace → List ℕ → List ℕ
-chart_message log marked origin is d place bytes =
-    message_front false origin is place ++ cell_front d ++ parted_role_words is d bytes ++ chart_data log bytes (counterpart marked is)
-    ++ note_text is place (length bytes) ++ cell_end d arrow.Headed
+abbrev pub chart_message : List RuleValue → PairLog → Option Marked → ℕ → MessageRole → Dir → MessagePlace → List ℕ → List ℕ
+chart_message rules log marked origin is d place bytes =
+    message_front false origin is place ++ cell_front d ++ parted_role_words is d bytes ++ chart_data rules log bytes (counterpart marked is)
+    ++ note_text is place (known_length rules bytes) ++ cell_end d arrow.Headed
 
 -- a row, to which no link leads, with these marks of its item
-abbrev pub chart_row : PairLog → Option Marked → ℕ → RowValue → List ℕ
-chart_row log marked origin (message is d place bytes) = chart_message log marked origin is d place bytes
-chart_row log marked origin (no_answer number silent) = no_answer_row number silent
-chart_row log marked origin (dropped place d linked why) = dropped_row false origin place d why
-chart_row log marked origin (ended place end) = ended_row false origin place end
-chart_row log marked origin (unfinished d line len) = unfinished_row false d line len
+abbrev pub chart_row : List RuleValue → PairLog → Option Marked → ℕ → RowValue → List ℕ
+chart_row rules log marked origin (message is d place bytes) = chart_message rules log marked origin is d place bytes
+chart_row rules log marked origin (no_answer number silent) = no_answer_row number silent
+chart_row rules log marked origin (dropped place d linked why) = dropped_row false origin place d why
+chart_row rules log marked origin (ended place end) = ended_row false origin place end
+chart_row rules log marked origin (unfinished d line len) = unfinished_row false d line len
 
 -- the number of the item that a row is of: what is lost is of the one that began last before it
 abbrev pub number_of : ℕ → RowValue → ℕ
@@ -134,41 +142,13 @@ abbrev pub begins_body : Option Bool → Bool → Bool → Bool
 begins_body None asks other = true
 begins_body (Some before) asks other = asks || is_another before other
 
--- the start of a body, where one begins: of items that are the same in both logs, or of others
-abbrev pub body_start : Bool → Bool → List ℕ
-body_start begins other = if begins then (if other then codes "<tbody class=\"df\">\n" else codes "<tbody>\n") else []
-
 -- rows of a chart, in bodies of the table, behind the body that stands, if one does, and the item that began last
 abbrev pub rows_text : Charted → ℕ → Option Bool → ℕ → List RowValue → List ℕ
 rows_text chart origin front last [] = []
 rows_text chart origin front last (row ∷ rows) =
     body_start (begins_body front (begins_exchange row) (is_other chart (number_of last row))) (is_other chart (number_of last row))
-    ++ chart_row chart.log (marks_at chart (number_of last row)) origin row
+    ++ chart_row chart.left.rules chart.log (marks_at chart (number_of last row)) origin row
     ++ rows_text chart origin (Some (is_other chart (number_of last row))) (last_begun last row) rows
-
--- a row of words alone, in a body of its own
-abbrev pub words_row : List ℕ → List ℕ → List ℕ
-words_row look words = codes "<tbody>\n<tr class=\"" ++ look ++ codes "\"><td><td><td><td><div class=\"t\"><div>" ++ words ++ codes "</div></div>\n"
-
--- how many rows more there are, or that the log ends
-abbrev pub chart_end : ℕ → Bool → List ℕ
-chart_end more ends =
-    if nat_le 1 more
-    then words_row (codes "p") (codes "<i>" ++ decimal more ++ (if more == 1 then codes " row more, not shown here</i>" else codes " rows more, not shown here</i>"))
-    else if ends then words_row (codes "p end") (codes "<b>end</b> <i>of the log</i>")
-    else []
-
--- how many items more the difference has, if it has some
-abbrev pub items_end : ℕ → List ℕ
-items_end count =
-    if count == 0 then []
-    else words_row (codes "p") (codes "<i>" ++ decimal count ++ (if count == 1 then codes " item more of this difference, not shown here</i>" else codes " items more of this difference, not shown here</i>"))
-
--- the head of a chart, by its classes: the names of its columns
-abbrev pub chart_head : List ℕ → List ℕ
-chart_head classes =
-    codes "<table class=\"" ++ classes
-    ++ codes "\">\n<thead><tr><th scope=\"col\">Item<th scope=\"col\">Lines<th scope=\"col\">Time<th scope=\"col\"><span class=\"T\">Tester</span> <span class=\"U\">Unit</span></thead>\n"
 
 -- The chart of a log around the item of a place, of so many that the difference has from that on. What is lost before its
 -- first item is of the item in front of that place, or of the first one.
@@ -197,7 +177,7 @@ first_number = 1
 abbrev pub first_of : ℕ → List ℕ → List ℕ → SessionValue → SessionValue → List Row → Change → List ℕ
 first_of count left_name right_name left right rows here =
     codes "<section id=\"difference\">\n<h2>" ++ (if count == 1 then codes "The difference, as recorded" else codes "The first difference, as recorded") ++ codes "</h2>\n<p>"
-    ++ change_line (count == 1) first_number (is_lossy A left here) (is_lossy B right here) (values_in left) (values_in right) here ++ codes "</p>\n<div class=\"two\">\n"
+    ++ change_line left.rules (count == 1) first_number (is_lossy A left here) (is_lossy B right here) (values_in left) (values_in right) here ++ codes "</p>\n<div class=\"two\">\n"
     ++ side (charted A left right rows) left_name here.left (own_count A here) left ++ side (charted B left right rows) right_name here.right (own_count B here) right
     ++ codes "</div>\n</section>\n"
 

@@ -8,11 +8,11 @@ use Rattle.shown_rows.specs.Rows.{count_of, differs}
 use Rattle.trace_report.specs.Items.{items_in}
 use Rattle.trace_report.specs.Session.{SessionValue}
 use Rattle.trace_pair.specs.declared.folds.Fold.{Fold}
-use Rattle.trace_pair.specs.declared.log.PairLog.{PairLog}
-use Rattle.trace_pair.specs.declared.log.PairLog.TheVariants.{A, B}
+use Rattle.pair_words.specs.declared.log.PairLog.{PairLog}
+use Rattle.pair_words.specs.declared.log.PairLog.TheVariants.{A, B}
 use Rattle.trace_pair.specs.ChangeWords.{items_range}
 use Rattle.trace_pair.specs.ItemRows.{row_text}
-use Rattle.trace_pair.specs.Logs.{letter}
+use Rattle.pair_words.specs.Logs.{letter}
 use Rattle.trace_pair.specs.Losses.{losses_from, losses_of, losses_text}
 use Rattle.trace_pair.specs.RowStretches.{PlacedRow, Stretch, shown, folded, fold_rows, full_table, parts, placed, stretches, tables}
 use Rattle.trace_pair.specs.Verdict.{items_word}

@@ -1,5 +1,5 @@
 -- Items in the words of a technician: what was asked, and what came of it; and how two items differ.
-use Rattle.std.specs.Prelude.{ℕ, ◌-◌, ◌==◌, Bool, true, false, List, [], ◌++◌, codes, length, nat_le, take, Option, Some, None, if◌then◌else◌}
+use Rattle.std.specs.Prelude.{ℕ, ◌-◌, ◌==◌, Bool, true, false, List, [], ◌++◌, codes, length, nat_le, Option, Some, None, if◌then◌else◌}
 use Rattle.std.specs.Fmt.{decimal}
 use Rattle.direction.specs.declared.Dir.{Dir}
 use Rattle.direction.specs.declared.Dir.TheVariants as dir
@@ -7,14 +7,15 @@ use Rattle.uds_message.specs.Message.{is_keep_alive, is_negative_response, is_su
 use Rattle.uds_exchange.specs.Meaning.{ItemValue, exchange, stray}
 use Rattle.uds_difference.specs.Likeness.{same_bytes}
 use Rattle.trace_text.specs.Words.{direction_text}
-use Rattle.trace_report.specs.Data.{bytes_apart, more_words}
+use Rattle.shown_bytes.specs.Data.{known_length, more_words, piece_text}
+use Rattle.uds_rules.specs.Rule.{RuleValue}
 use Rattle.trace_pair.specs.declared.outcome.Outcome.{Outcome}
 use Rattle.trace_pair.specs.declared.outcome.Outcome.TheVariants.{Positive, Refused, Silent, Unanswered}
-use Rattle.trace_pair.specs.declared.log.PairLog.{PairLog}
-use Rattle.trace_pair.specs.declared.log.PairLog.TheVariants.{A, B}
-use Rattle.trace_pair.specs.ByteWords.{byte_words}
-use Rattle.trace_pair.specs.Logs.{letter}
-use Rattle.trace_pair.specs.LongNames.{parted_code, parted_service}
+use Rattle.pair_words.specs.declared.log.PairLog.{PairLog}
+use Rattle.pair_words.specs.declared.log.PairLog.TheVariants.{A, B}
+use Rattle.pair_words.specs.ByteWords.{byte_words}
+use Rattle.pair_words.specs.Logs.{letter}
+use Rattle.pair_words.specs.LongNames.{parted_code, parted_service}
 
 -- what came of a request: its answer, or why there is none
 abbrev pub came_of : List ℕ → Option (List ℕ) → Outcome
@@ -72,11 +73,17 @@ same_outcome _ _ = false
 abbrev pub told_bytes : ℕ
 told_bytes = 8
 
+-- what stands before how many more bytes a message has: at least so many, where it is not known how many it has
+abbrev pub more_front : Option ℕ → List ℕ
+more_front None = codes " <i>and at least "
+more_front (Some known) = codes " <i>and "
+
 -- the first bytes of a message, and how many more it has
-abbrev pub first_bytes : List ℕ → List ℕ
-first_bytes bytes =
-    codes "<code>" ++ bytes_apart (take told_bytes bytes) ++ codes "</code>"
-    ++ (if nat_le (length bytes) told_bytes then [] else codes " <i>and " ++ decimal (length bytes - told_bytes) ++ more_words (length bytes - told_bytes) ++ codes "</i>")
+abbrev pub first_bytes : List RuleValue → List ℕ → List ℕ
+first_bytes rules bytes =
+    codes "<code>" ++ piece_text rules bytes 0 told_bytes ++ codes "</code>"
+    ++ (if nat_le (length bytes) told_bytes then []
+    else more_front (known_length rules bytes) ++ decimal (length bytes - told_bytes) ++ more_words (length bytes - told_bytes) ++ codes "</i>")
 
 -- a stray is a keep-alive, where the tester sent it and it is one
 abbrev pub keeps_alive : Dir → List ℕ → Bool
@@ -84,11 +91,11 @@ keeps_alive dir.Tester bytes = is_keep_alive bytes
 keeps_alive dir.Unit bytes = false
 
 -- what an item is, and how it begins
-abbrev pub item_title : ItemValue → List ℕ
-item_title (exchange request answer) = codes "<b>" ++ parted_service (sid request) ++ codes "</b> " ++ first_bytes request
-item_title (stray side bytes) =
+abbrev pub item_title : List RuleValue → ItemValue → List ℕ
+item_title rules (exchange request answer) = codes "<b>" ++ parted_service (sid request) ++ codes "</b> " ++ first_bytes rules request
+item_title rules (stray side bytes) =
     (if keeps_alive side bytes then codes "<b>keep-alive</b> " else codes "<b>stray</b> <i>from the " ++ direction_text side ++ codes "</i> ")
-    ++ first_bytes bytes
+    ++ first_bytes rules bytes
 
 -- what came of an item, behind its title, where it is an exchange
 abbrev pub outcome_note : ItemValue → List ℕ
@@ -96,21 +103,22 @@ outcome_note (exchange request answer) = codes ": " ++ outcome_words (came_of re
 outcome_note (stray side bytes) = []
 
 -- at which bytes two answers differ, behind what stands before
-abbrev pub answer_bytes : List ℕ → Option (List ℕ) → Option (List ℕ) → List ℕ
-answer_bytes before (Some xs) (Some ys) = if same_bytes xs ys then [] else before ++ codes "answer" ++ byte_words xs ys
-answer_bytes before _ _ = []
+abbrev pub answer_bytes : List RuleValue → List ℕ → Option (List ℕ) → Option (List ℕ) → List ℕ
+answer_bytes rules before (Some xs) (Some ys) = if same_bytes xs ys then [] else before ++ codes "answer" ++ byte_words rules xs ys
+answer_bytes rules before _ _ = []
 
 -- how the answers of two exchanges differ: in what came of the request, or else in bytes
-abbrev pub answers_differ : List ℕ → Outcome → Outcome → Option (List ℕ) → Option (List ℕ) → List ℕ
-answers_differ before one other answer reply =
-    if same_outcome one other then answer_bytes before answer reply
+abbrev pub answers_differ : List RuleValue → List ℕ → Outcome → Outcome → Option (List ℕ) → Option (List ℕ) → List ℕ
+answers_differ rules before one other answer reply =
+    if same_outcome one other then answer_bytes rules before answer reply
     else before ++ outcomes_differ one other
 
 -- how two items of one service differ: in the request, in the answer, or in both
-abbrev pub differ : ItemValue → ItemValue → List ℕ
-differ (exchange request answer) (exchange other reply) =
+abbrev pub differ : List RuleValue → ItemValue → ItemValue → List ℕ
+differ rules (exchange request answer) (exchange other reply) =
     if same_bytes request other
-    then answers_differ [] (came_of request answer) (came_of other reply) answer reply
-    else codes "request" ++ byte_words request other ++ answers_differ (codes "; ") (came_of request answer) (came_of other reply) answer reply
-differ (stray side bytes) (stray other others) = codes "message" ++ byte_words bytes others
-differ _ _ = []
+    then answers_differ rules [] (came_of request answer) (came_of other reply) answer reply
+    else codes "request" ++ byte_words rules request other
+    ++ answers_differ rules (codes "; ") (came_of request answer) (came_of other reply) answer reply
+differ rules (stray side bytes) (stray other others) = codes "message" ++ byte_words rules bytes others
+differ rules _ _ = []

@@ -1,8 +1,4 @@
-pub mod Logs
-pub mod LongNames
-pub mod DifferenceNames
-pub mod ColumnLines
-pub mod ByteWords
+pub mod PartedRoles
 pub mod ItemWords
 pub mod ToldItems
 pub mod Sessions
@@ -11,6 +7,7 @@ pub mod MemoryNeeded
 pub mod Losses
 pub mod ChangeWords
 pub mod Verdict
+pub mod PairRules
 pub mod Recordings
 pub mod Widths
 pub mod Differences
@@ -30,8 +27,6 @@ pub mod ChartLaws
 pub mod OutcomeLaws
 pub mod TableLaws
 pub mod LinkLaws
-pub mod ColumnLaws
-pub mod ByteLaws
 pub mod RowLaws
 pub mod LossLaws
 pub mod proving

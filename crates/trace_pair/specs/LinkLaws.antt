@@ -5,7 +5,7 @@ use Rattle.uds_difference.specs.declared.row.Row.{Row}
 use Rattle.shown_rows.specs.Changes.{changes}
 use Rattle.trace_report.specs.Linked.{IsAmong}
 use Rattle.trace_report.specs.Session.{SessionValue}
-use Rattle.trace_pair.specs.DifferenceNames.{difference_name}
+use Rattle.pair_words.specs.DifferenceNames.{difference_name}
 use Rattle.trace_pair.specs.ChangeWords.{where_link}
 use Rattle.trace_pair.specs.Differences.{difference_lines, first_unlisted, list_end, listed_differences}
 use Rattle.trace_pair.specs.ItemRows.{begun_number, row_start, way_on}

@@ -5,8 +5,8 @@ use Rattle.shown_rows.specs.declared.changes.Change.{Change}
 use Rattle.trace_report.specs.Items.{items_in, rows_before}
 use Rattle.trace_report.specs.Rows.{RowValue}
 use Rattle.trace_report.specs.Session.{SessionValue}
-use Rattle.trace_pair.specs.declared.log.PairLog.{PairLog}
-use Rattle.trace_pair.specs.Logs.{has_item, items_before}
+use Rattle.pair_words.specs.declared.log.PairLog.{PairLog}
+use Rattle.pair_words.specs.Logs.{has_item, items_before}
 use Rattle.trace_pair.specs.Losses.{first_row, is_loss, losses_of}
 use Rattle.trace_pair.specs.Verdict.{is_lossy}
 

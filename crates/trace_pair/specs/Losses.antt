@@ -6,8 +6,8 @@ use Rattle.std.specs.List.{filter, flat_map}
 use Rattle.trace_report.specs.Items.{begins, rows_before}
 use Rattle.trace_report.specs.Rows.{RowValue, message, no_answer, dropped, ended, unfinished}
 use Rattle.trace_report.specs.MissingRows.{dropped_words, ended_words, unfinished_words}
-use Rattle.trace_pair.specs.declared.log.PairLog.{PairLog}
-use Rattle.trace_pair.specs.Logs.{letter, letter_mark}
+use Rattle.pair_words.specs.declared.log.PairLog.{PairLog}
+use Rattle.pair_words.specs.Logs.{letter, letter_mark}
 
 -- a row tells that something is missing
 abbrev pub is_loss : RowValue → Bool

@@ -12,11 +12,11 @@ use Rattle.shown_rows.specs.declared.changes.Change.{Change}
 use Rattle.trace_report.specs.Session.{SessionValue}
 use Rattle.trace_report.specs.Verdict.{verdict_head}
 use Rattle.trace_pair.specs.declared.item_row.RowPlace.{RowPlace}
-use Rattle.trace_pair.specs.declared.log.PairLog.{PairLog}
-use Rattle.trace_pair.specs.declared.log.PairLog.TheVariants.{A, B}
+use Rattle.pair_words.specs.declared.log.PairLog.{PairLog}
+use Rattle.pair_words.specs.declared.log.PairLog.TheVariants.{A, B}
 use Rattle.trace_pair.specs.Counterparts.{row_with}
 use Rattle.trace_pair.specs.ItemRows.{place_in}
-use Rattle.trace_pair.specs.Logs.{has_item}
+use Rattle.pair_words.specs.Logs.{has_item}
 use Rattle.trace_pair.specs.Verdict.{same_words, verdict}
 
 -- The counts of the verdict.

@@ -6,10 +6,10 @@ use Rattle.uds_difference.specs.Rows.{rows_of}
 use Rattle.uds_difference.specs.declared.row.Row.{Row}
 use Rattle.shown_rows.specs.Hunks.{hunks}
 use Rattle.shown_rows.specs.Laws.{RowAt, places_of_hunk, row_at}
-use Rattle.trace_pair.specs.declared.log.PairLog.{PairLog}
-use Rattle.trace_pair.specs.declared.log.PairLog.TheVariants.{A, B}
+use Rattle.pair_words.specs.declared.log.PairLog.{PairLog}
+use Rattle.pair_words.specs.declared.log.PairLog.TheVariants.{A, B}
 use Rattle.trace_pair.specs.ItemRows.{place_in}
-use Rattle.trace_pair.specs.Logs.{has_item}
+use Rattle.pair_words.specs.Logs.{has_item}
 use Rattle.trace_pair.specs.RowStretches.{PlacedRow, Stretch, shown, folded, fold_rows, parts, placed, stretches, tables}
 
 -- the rows of a table

@@ -1,33 +1,35 @@
 -- Items as rows tell them: the messages with what they are, and when they were.
 use Rattle.std.specs.Prelude.{ℕ, Bool, List, [], ◌++◌, codes, max, min, Option, Some, None, unwrap_or, if◌then◌else◌}
 use Rattle.uds_message.specs.Message.{is_suppressing}
+use Rattle.uds_rules.specs.Rule.{RuleValue}
 use Rattle.trace_report.specs.Roles.{is_request_role, asked_at}
 use Rattle.trace_report.specs.Items.{RowMessageValue, PlacedItemValue}
 use Rattle.trace_report.specs.MessageRows.{further_note, named_lines}
-use Rattle.trace_report.specs.Data.{data_text}
+use Rattle.shown_bytes.specs.Data.{data_text}
 use Rattle.trace_report.specs.Durations.{seconds_between}
 use Rattle.trace_report.specs.declared.row.MessagePlace.{MessagePlace}
-use Rattle.trace_pair.specs.declared.log.PairLog.{PairLog}
-use Rattle.trace_pair.specs.Logs.{letter_mark}
-use Rattle.trace_pair.specs.LongNames.{parted_role_words}
+use Rattle.pair_words.specs.declared.log.PairLog.{PairLog}
+use Rattle.pair_words.specs.Logs.{letter_mark}
+use Rattle.trace_pair.specs.PartedRoles.{parted_role_words}
 
--- a message: what it is, and its bytes
-abbrev pub told_message : RowMessageValue → List ℕ
-told_message sent = parted_role_words sent.role sent.dir sent.bytes ++ data_text sent.bytes
+-- a message that rules have left: what it is, and its bytes
+abbrev pub told_message : List RuleValue → RowMessageValue → List ℕ
+told_message rules sent = parted_role_words sent.role sent.dir sent.bytes ++ data_text rules sent.bytes
 
 -- what stands in place of an answer
 abbrev pub no_answer_text : Bool → List ℕ
 no_answer_text silent = if silent then codes "<b>silent</b>" else codes "<b class=\"no\">no answer</b>"
 
 -- the answer to a request, or what stands in its place
-abbrev pub told_answer : List ℕ → Option RowMessageValue → List ℕ
-told_answer request None = no_answer_text (is_suppressing request)
-told_answer request (Some reply) = told_message reply
+abbrev pub told_answer : List RuleValue → List ℕ → Option RowMessageValue → List ℕ
+told_answer rules request None = no_answer_text (is_suppressing request)
+told_answer rules request (Some reply) = told_message rules reply
 
 -- an item: a request with its answer behind an arrow, or a message
-abbrev pub told_item : PlacedItemValue → List ℕ
-told_item item =
-    told_message item.begin ++ (if is_request_role item.begin.role then codes " &#8594; " ++ told_answer item.begin.bytes item.answer else [])
+abbrev pub told_item : List RuleValue → PlacedItemValue → List ℕ
+told_item rules item =
+    told_message rules item.begin
+    ++ (if is_request_role item.begin.role then codes " &#8594; " ++ told_answer rules item.begin.bytes item.answer else [])
 
 -- the last message of an item
 abbrev pub last_message : PlacedItemValue → RowMessageValue

@@ -9,11 +9,12 @@ use Rattle.uds_difference.specs.declared.row.Row.TheVariants.{Same, Changed, Onl
 use Rattle.shown_rows.specs.Changes.{changes}
 use Rattle.shown_rows.specs.Rows.{count_of, differs}
 use Rattle.shown_rows.specs.declared.changes.Change.{Change}
+use Rattle.trace_report.specs.RuleWords.{rules_word}
 use Rattle.trace_report.specs.Session.{SessionValue}
 use Rattle.trace_report.specs.Verdict.{verdict_head}
-use Rattle.trace_pair.specs.declared.log.PairLog.{PairLog}
-use Rattle.trace_pair.specs.declared.log.PairLog.TheVariants.{A, B}
-use Rattle.trace_pair.specs.Logs.{has_item, items_before}
+use Rattle.pair_words.specs.declared.log.PairLog.{PairLog}
+use Rattle.pair_words.specs.declared.log.PairLog.TheVariants.{A, B}
+use Rattle.pair_words.specs.Logs.{has_item, items_before}
 use Rattle.trace_pair.specs.Losses.{losses_from, losses_in_front}
 use Rattle.trace_pair.specs.Sessions.{values_in}
 
@@ -135,31 +136,49 @@ doubt_words exchanged asked = if exchanged then codes ", but tester and unit loo
 abbrev pub is_beyond_doubt : Bool → Bool → Bool → Bool → Bool
 is_beyond_doubt exchanged asked left_clean right_clean = not exchanged && (asked && (left_clean && right_clean))
 
--- the start of the heading of sessions that are the same: in green only where they are so without a doubt
-abbrev pub same_start : Bool → List ℕ
-same_start beyond_doubt =
-    (if beyond_doubt then verdict_head (codes "good") (codes "=") else verdict_head (codes "warn") (codes "!")) ++ codes "The two sessions are the same"
+-- that sessions are under so many rules, where they are under one
+abbrev pub under_words : ℕ → List ℕ
+under_words rules = if rules == 0 then [] else codes " under " ++ rules_word rules
 
--- the heading of sessions that are the same
-abbrev pub same_heading : Bool → Bool → Bool → Bool → List ℕ
-same_heading exchanged asked left_clean right_clean =
-    same_start (is_beyond_doubt exchanged asked left_clean right_clean) ++ recorded_words left_clean right_clean ++ doubt_words exchanged asked ++ codes "</h2>\n"
+-- the head of sessions that are the same without a doubt: in green where they are under no rule, and else in a colour and with
+-- a sign of its own
+abbrev pub same_head : ℕ → List ℕ
+same_head rules = if rules == 0 then verdict_head (codes "good") (codes "=") else verdict_head (codes "ruled") (codes "&#8776;")
 
--- that so many items are the same
-abbrev pub same_items : ℕ → List ℕ
-same_items count =
-    if count == 1 then codes "<p>One item is equal in both, byte for byte.</p>\n"
-    else codes "<p>Each of the " ++ decimal count ++ codes " items is equal in both, byte for byte.</p>\n"
+-- the start of the heading of sessions that are the same, under so many rules: as that only where they are so without a doubt
+abbrev pub same_start : ℕ → Bool → List ℕ
+same_start rules beyond_doubt =
+    (if beyond_doubt then same_head rules else verdict_head (codes "warn") (codes "!")) ++ codes "The two sessions are the same"
+    ++ under_words rules
 
--- the verdict of two sessions that are the same: its heading, how many items they have, and the size of the page
-abbrev pub same_verdict : Bool → Bool → Bool → Bool → ℕ → List ℕ
-same_verdict exchanged asked left_clean right_clean count =
-    same_heading exchanged asked left_clean right_clean ++ same_items count ++ size_line count
+-- the heading of sessions that are the same, under so many rules
+abbrev pub same_heading : ℕ → Bool → Bool → Bool → Bool → List ℕ
+same_heading rules exchanged asked left_clean right_clean =
+    same_start rules (is_beyond_doubt exchanged asked left_clean right_clean) ++ recorded_words left_clean right_clean
+    ++ doubt_words exchanged asked ++ codes "</h2>\n"
+
+-- what is compared under so many rules, in front of how many items are the same
+abbrev pub compared_words : ℕ → List ℕ
+compared_words rules = if rules == 0 then [] else codes "Of what the rules leave: "
+
+-- that so many items are the same, under so many rules
+abbrev pub same_items : ℕ → ℕ → List ℕ
+same_items rules count =
+    codes "<p>" ++ compared_words rules
+    ++ (if count == 1 then codes "One item is equal in both, byte for byte.</p>\n"
+    else codes "Each of the " ++ decimal count ++ codes " items is equal in both, byte for byte.</p>\n")
+
+-- the verdict of two sessions that are the same, under so many rules: its heading, how many items they have, and the size of
+-- the page
+abbrev pub same_verdict : ℕ → Bool → Bool → Bool → Bool → ℕ → List ℕ
+same_verdict rules exchanged asked left_clean right_clean count =
+    same_heading rules exchanged asked left_clean right_clean ++ same_items rules count ++ size_line count
 
 -- the verdict of two sessions that are the same, and have so many items
 abbrev pub same_of : ℕ → SessionValue → SessionValue → List ℕ
 same_of count left right =
-    same_verdict (left.summary.looks_exchanged || right.summary.looks_exchanged) (list_any is_exchange (values_in left)) (is_clean left.summary) (is_clean right.summary) count
+    same_verdict (length left.rules) (left.summary.looks_exchanged || right.summary.looks_exchanged) (list_any is_exchange (values_in left))
+    (is_clean left.summary) (is_clean right.summary) count
 
 -- the verdict of two sessions with these rows
 abbrev pub verdict : Bool → ℕ → List Row → SessionValue → SessionValue → List ℕ

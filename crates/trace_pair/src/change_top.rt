@@ -2,18 +2,20 @@
 
 use crate::change_words::Tag;
 use crate::differ_words::DifferWords;
-use crate::difference_names::DifferenceName;
 use crate::item_row::Begun;
 use crate::sessions::item_of;
+use pair_words::DifferenceName;
 use text_parts::{Either, Part, say};
 use trace_io::TextSink;
 use trace_report::PlacedItem;
 use trace_text::Number;
 use uds_difference::Row;
+use uds_rules::Rules;
 
 /// What a change is, and the way to the next one, where a change begins.
 #[derive(Clone, Copy)]
 pub(crate) struct TopIf<'a> {
+    pub rules: &'a Rules,
     pub begun: Option<Begun>,
     pub kind: Row,
     pub one: Option<PlacedItem<'a>>,
@@ -25,10 +27,11 @@ impl<'a> Part for TopIf<'a> {
     ghost use Rattle.trace_report.specs.Items.{item_of};
     ghost use Rattle.trace_pair.specs.ItemRows.{top_of};
 
-    ghost text = { λ top. top_of top.begun top.kind (option_map item_of top.one) (option_map item_of top.other) };
+    ghost text = { λ top. top_of top.rules.now top.begun top.kind (option_map item_of top.one) (option_map item_of top.other) };
 
     fn say<S: TextSink>(self, out: &mut S) {
         let TopIf {
+            rules,
             begun,
             kind,
             one,
@@ -40,6 +43,7 @@ impl<'a> Part for TopIf<'a> {
                 (
                     "<p class=\"top\"><span>",
                     ChangeWords {
+                        rules,
                         kind,
                         count: begun.count,
                         one,
@@ -60,6 +64,7 @@ impl<'a> Part for TopIf<'a> {
 /// What a change is.
 #[derive(Clone, Copy)]
 struct ChangeWords<'a> {
+    rules: &'a Rules,
     kind: Row,
     count: usize,
     one: Option<PlacedItem<'a>>,
@@ -71,10 +76,11 @@ impl<'a> Part for ChangeWords<'a> {
     ghost use Rattle.trace_report.specs.Items.{item_of};
     ghost use Rattle.trace_pair.specs.ItemRows.{change_words};
 
-    ghost text = { λ words. change_words words.kind words.count (option_map item_of words.one) (option_map item_of words.other) };
+    ghost text = { λ words. change_words words.rules.now words.kind words.count (option_map item_of words.one) (option_map item_of words.other) };
 
     fn say<S: TextSink>(self, out: &mut S) {
         let ChangeWords {
+            rules,
             kind,
             count,
             one,
@@ -87,7 +93,7 @@ impl<'a> Part for ChangeWords<'a> {
                     "<b class=\"tag\">",
                     Tag(kind),
                     "</b> ",
-                    DifferWords(item_of(one), item_of(other)),
+                    DifferWords(rules, item_of(one), item_of(other)),
                 ),
             ),
             (None, _) | (Some(_), None) => say(out, AloneWords { kind, count }),
@@ -103,10 +109,10 @@ struct AloneWords {
 }
 
 impl Part for AloneWords {
-    ghost use Rattle.std.specs.Prelude.{None};
+    ghost use Rattle.std.specs.Prelude.{[], None};
     ghost use Rattle.trace_pair.specs.ItemRows.{change_words};
 
-    ghost text = { λ words. change_words words.kind words.count None None };
+    ghost text = { λ words. change_words [] words.kind words.count None None };
 
     fn say<S: TextSink>(self, out: &mut S) {
         let AloneWords { kind, count } = self;

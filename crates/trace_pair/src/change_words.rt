@@ -2,15 +2,14 @@
 ghost use Rattle.std.specs.Prelude.{◌+◌, ◌<◌, ◌≤◌, ◌^◌};
 ghost use Rattle.trace_pair.specs.ChangeWords.{IsSmall, change_line, items_range, run_words, what_text, where_link, where_text};
 ghost use Rattle.trace_pair.specs.Verdict.{is_lossy as is_lossy_by};
-ghost use Rattle.trace_pair.specs.declared.log.PairLog.TheVariants.{A, B};
+ghost use Rattle.pair_words.specs.declared.log.PairLog.TheVariants.{A, B};
 ghost use Rattle.trace_pair.specs.Sessions.{left_items, right_items, values_in};
 
 use crate::differ_words::DifferWords;
-use crate::difference_names::DifferenceName;
 use crate::item_words::{ItemTitle, OutcomeNote};
-use crate::log::PairLog;
 use crate::losses::is_lossy;
 use crate::sessions::{Sessions, item_at};
+use pair_words::{DifferenceName, PairLog};
 use shown_rows::Change;
 use text_parts::{Either, Part, say};
 use trace_io::TextSink;
@@ -18,6 +17,7 @@ use trace_report::KeptSession;
 use trace_text::{Number, Ordinal};
 use uds_difference::Row;
 use uds_exchange::Item;
+use uds_rules::Rules;
 
 /// Says a change in a line: where it stands, with a link to the one of this number, counted from 1, or without; what it
 /// is; and whether a log is not clean there.
@@ -29,7 +29,7 @@ pub(crate) fn say_change_line<S: TextSink>(
     out: &mut S,
 )
     requires { IsSmall change }
-    ensures { S.says out.old (change_line linked number (is_lossy_by A sessions.entry.left.now change) (is_lossy_by B sessions.entry.right.now change) (left_items sessions.entry) (right_items sessions.entry) change) out.new }
+    ensures { S.says out.old (change_line sessions.entry.left.now.rules linked number (is_lossy_by A sessions.entry.left.now change) (is_lossy_by B sessions.entry.right.now change) (left_items sessions.entry) (right_items sessions.entry) change) out.new }
 {
     let unclean = Unclean {
         left: is_lossy(PairLog::A, sessions.left, change),
@@ -132,48 +132,68 @@ pub(crate) fn say_items_range<S: TextSink>(log: PairLog, before: usize, count: u
 /// Says what a change is.
 fn say_what<S: TextSink>(sessions: Sessions<'_>, change: Change, out: &mut S)
     requires { IsSmall change }
-    ensures { S.says out.old (what_text (left_items sessions.entry) (right_items sessions.entry) change.kind change.left change.right change.count) out.new }
+    ensures { S.says out.old (what_text sessions.entry.left.now.rules (left_items sessions.entry) (right_items sessions.entry) change.kind change.left change.right change.count) out.new }
 {
     match change.kind {
         Row::Same => {}
         Row::Changed => say(
             out,
             ChangedItems(
+                sessions.left.rules(),
                 item_at(sessions.left, change.left),
                 item_at(sessions.right, change.right),
             ),
         ),
-        Row::OnlyLeft => say_run(sessions.left, change.left, change.count, out),
-        Row::OnlyRight => say_run(sessions.right, change.right, change.count, out),
+        Row::OnlyLeft => say_run(
+            sessions.left.rules(),
+            sessions.left,
+            change.left,
+            change.count,
+            out,
+        ),
+        Row::OnlyRight => say_run(
+            sessions.left.rules(),
+            sessions.right,
+            change.right,
+            change.count,
+            out,
+        ),
     }
 }
 
 /// Two items that changed, if they are there.
 #[derive(Clone, Copy)]
-pub(crate) struct ChangedItems<'a>(pub Option<Item<'a>>, pub Option<Item<'a>>);
+pub(crate) struct ChangedItems<'a>(pub &'a Rules, pub Option<Item<'a>>, pub Option<Item<'a>>);
 
 impl<'a> Part for ChangedItems<'a> {
     ghost use Rattle.std.specs.Prelude.{option_map};
     ghost use Rattle.uds_exchange.specs.ItemSeen.{item_value};
     ghost use Rattle.trace_pair.specs.ChangeWords.{pair_words};
 
-    ghost text = { λ t. pair_words (option_map item_value t.0) (option_map item_value t.1) };
+    ghost text = { λ t. pair_words t.0.now (option_map item_value t.1) (option_map item_value t.2) };
 
     fn say<S: TextSink>(self, out: &mut S) {
-        if let (Some(x), Some(y)) = (self.0, self.1) {
-            say(out, (ItemTitle(x), ": ", DifferWords(x, y)));
+        let ChangedItems(rules, one, other) = self;
+        if let (Some(x), Some(y)) = (one, other) {
+            say(out, (ItemTitle(rules, x), ": ", DifferWords(rules, x, y)));
         }
     }
 }
 
 /// Says items that stand alone: so many, from the place of the first one on.
-fn say_run<S: TextSink>(session: &KeptSession, first: usize, count: usize, out: &mut S)
+fn say_run<S: TextSink>(
+    rules: &Rules,
+    session: &KeptSession,
+    first: usize,
+    count: usize,
+    out: &mut S,
+)
     requires { first + count < 2 ^ 63 }
-    ensures { S.says out.old (run_words (values_in session.now) first count) out.new }
+    ensures { S.says out.old (run_words rules.now (values_in session.now) first count) out.new }
 {
     let item = item_at(session, first);
     if count == 1 {
-        say(out, TitleIf(item));
+        say(out, TitleIf(rules, item));
         say(out, OutcomeIf(item));
     } else {
         let last = item_at(session, (first + count).saturating_sub(1));
@@ -182,9 +202,9 @@ fn say_run<S: TextSink>(session: &KeptSession, first: usize, count: usize, out: 
             (
                 Number(count as u64),
                 " items, from ",
-                TitleIf(item),
+                TitleIf(rules, item),
                 " to ",
-                TitleIf(last),
+                TitleIf(rules, last),
             ),
         );
     }
@@ -192,7 +212,7 @@ fn say_run<S: TextSink>(session: &KeptSession, first: usize, count: usize, out: 
 
 /// The title of an item, if there is one.
 #[derive(Clone, Copy)]
-struct TitleIf<'a>(Option<Item<'a>>);
+struct TitleIf<'a>(&'a Rules, Option<Item<'a>>);
 
 impl<'a> Part for TitleIf<'a> {
     ghost use Rattle.std.specs.Prelude.{option_map};
@@ -200,11 +220,12 @@ impl<'a> Part for TitleIf<'a> {
     ghost use Rattle.uds_exchange.specs.ItemSeen.{item_value};
     ghost use Rattle.trace_pair.specs.ItemWords.{item_title};
 
-    ghost text = { λ t. text_if_some item_title (option_map item_value t.0) };
+    ghost text = { λ t. text_if_some (item_title t.0.now) (option_map item_value t.1) };
 
     fn say<S: TextSink>(self, out: &mut S) {
-        if let Some(item) = self.0 {
-            say(out, ItemTitle(item));
+        let TitleIf(rules, item) = self;
+        if let Some(item) = item {
+            say(out, ItemTitle(rules, item));
         }
     }
 }

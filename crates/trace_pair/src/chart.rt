@@ -7,20 +7,23 @@ ghost use Rattle.trace_report.specs.Rows.{missing_of, row_of};
 ghost use Rattle.trace_pair.specs.FirstDifference as Spec;
 ghost use Rattle.trace_pair.specs.proving.Marks.{charted_of, marked_of};
 
-use crate::chart_words::{BodyStart, ChartEnd, ItemsEnd, PairChartHead};
-use crate::column_lines::{ShownLogs, have_word, say_columns};
 use crate::counterparts::{Charted, Marked, counterpart, found_item};
-use crate::log::PairLog;
-use crate::long_names::PartedRoleWords;
 use crate::losses::first_row;
+use crate::pair_bytes::are_masked;
+use crate::parted_roles::PartedRoleWords;
 use crate::widths::SessionClasses;
 use byte_columns::ByteColumns;
+use pair_words::{
+    BodyStart, ChartEnd, ItemsEnd, PairChartHead, PairLog, ShownLogs, have_word, say_columns,
+};
+use shown_bytes::{Data, known_length};
 use text_parts::say;
 use trace_io::TextSink;
 use trace_report::{
-    Arrow, CellEnd, CellFront, Data, KeptRows, KeptSession, MessageFront, Missing, Note,
-    SentMessage, SessionRow, begins_exchange, begins_item, say_missing_row,
+    Arrow, CellEnd, CellFront, KeptRows, KeptSession, MessageFront, Missing, Note, SentMessage,
+    SessionRow, begins_exchange, begins_item, say_missing_row,
 };
+use uds_rules::Rules;
 
 /// A chart has so many rows at most.
 const MOST_ROWS: usize = 40;
@@ -155,7 +158,8 @@ fn say_rows<S: TextSink>(
                 other,
             },
         );
-        say_row(chart.log, found.marked, origin, row, out);
+        let rules = chart.sessions.left.rules();
+        say_row(rules, chart.log, found.marked, origin, row, out);
         front = Some(other);
         last = last_begun(last, row);
     }
@@ -218,13 +222,14 @@ fn is_another(before: bool, other: bool) -> bool
 
 /// Says a row of a log, to which no link leads, with these marks of its item.
 fn say_row<S: TextSink>(
+    rules: &Rules,
     log: PairLog,
     marked: Option<Marked<'_>>,
     origin: u64,
     row: SessionRow<'_>,
     out: &mut S,
 )
-    ensures { S.says out.old (Spec.chart_row log (option_map marked_of marked.entry) origin (row_of row.entry)) out.new }
+    ensures { S.says out.old (Spec.chart_row rules.now log (option_map marked_of marked.entry) origin (row_of row.entry)) out.new }
 {
     match row {
         SessionRow::Message { sent, message } => {
@@ -242,29 +247,44 @@ fn say_row<S: TextSink>(
                     PartedRoleWords(role, dir, message),
                 ),
             );
-            say_data(log, message, counterpart(marked, role), out);
-            say(out, Note(role, place, message.len() as u64));
+            say_data(rules, log, message, counterpart(marked, role), out);
+            say(out, Note(role, place, known_length(rules, message)));
             say(out, CellEnd(dir, Arrow::Headed));
         }
         SessionRow::Missing(missing) => say_missing_row(false, origin, missing, out),
     }
 }
 
-/// Says the bytes of a message: beside the one of the other log, where there is one.
-fn say_data<S: TextSink>(log: PairLog, message: &[u8], other: Option<&[u8]>, out: &mut S)
-    ensures { S.says out.old (Spec.chart_data log message.now (option_map (λ bytes. bytes.now) other.entry)) out.new }
+/// Says the bytes of a message that rules have left: beside the one of the other log, where there is one.
+fn say_data<S: TextSink>(
+    rules: &Rules,
+    log: PairLog,
+    message: &[u8],
+    other: Option<&[u8]>,
+    out: &mut S,
+)
+    ensures { S.says out.old (Spec.chart_data rules.now log message.now (option_map (λ bytes. bytes.now) other.entry)) out.new }
 {
     match other {
-        Some(other) => {
-            let columns = beside_of(log, message, other);
-            say_columns(
-                ShownLogs::Only(log),
-                have_word(message, other),
-                &columns,
-                out,
-            );
-        }
-        None => say(out, Data(message)),
+        Some(other) => say_beside(rules, log, message, other, out),
+        None => say(out, Data { rules, message }),
+    }
+}
+
+/// Says the bytes of a message beside the one of the other log, where rules mask neither.
+fn say_beside<S: TextSink>(rules: &Rules, log: PairLog, message: &[u8], other: &[u8], out: &mut S)
+    ensures { S.says out.old (Spec.beside_text rules.now log message.now other.now) out.new }
+{
+    if are_masked(rules, message, other) {
+        say(out, Data { rules, message });
+    } else {
+        let columns = beside_of(log, message, other);
+        say_columns(
+            ShownLogs::Only(log),
+            have_word(message, other),
+            &columns,
+            out,
+        );
     }
 }
 

@@ -7,10 +7,10 @@ ghost use Rattle.trace_pair.specs.ItemRows.{place_in as place_of};
 ghost use Rattle.trace_pair.specs.proving.Marks.{charted_of, marked_of};
 
 use crate::item_row::{RowPlace, place_in};
-use crate::log::{PairLog, has_item};
 use crate::outcome::same_outcome;
 use crate::pair_bytes::outcome_by;
 use crate::sessions::Sessions;
+use pair_words::{PairLog, has_item};
 use shown_rows::{is_change, left_in, right_in};
 use trace_report::{KeptSession, MessageRole, PlacedItem, begins_item, is_answer_role};
 use uds_difference::Row;

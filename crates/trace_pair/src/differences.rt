@@ -6,8 +6,8 @@ ghost use Rattle.trace_pair.specs.Differences as Spec;
 ghost use Rattle.trace_pair.specs.proving.Changing.{count_if, line_if};
 
 use crate::change_words::say_change_line;
-use crate::difference_names::DifferenceName;
 use crate::sessions::Sessions;
+use pair_words::DifferenceName;
 use shown_rows::{Change, change_at, count_changes, left_in, right_in};
 use text_parts::{Either, Part, When, say};
 use trace_io::TextSink;

@@ -1,22 +1,24 @@
 //! The front of a page of two logs.
-use crate::log::{LetteredName, PairLog};
 use crate::title::Title;
+use pair_words::{LetteredName, PairLog};
+use shown_bytes::Name;
 use text_parts::{Either, Part, say};
 use trace_io::TextSink;
-use trace_report::{Identifiers, Name, PageStart, Shapes};
+use trace_report::{Identifiers, PageStart, RulesStyle, Shapes};
+use uds_rules::Rules;
 
-/// What stands before the verdict, where there are so many differences.
+/// What stands before the rules and the verdict of a page under rules, where there are so many differences.
 #[derive(Clone, Copy)]
-pub(crate) struct PairFront<'a>(pub &'a Title<'a>, pub usize);
+pub(crate) struct PairFront<'a>(pub &'a Title<'a>, pub &'a Rules, pub usize);
 
 impl<'a> Part for PairFront<'a> {
     ghost use Rattle.trace_pair.specs.Page.{front};
     ghost use Rattle.trace_pair.specs.Titles.{title_of};
 
-    ghost text = { λ t. front (title_of t.0.now) t.1 };
+    ghost text = { λ t. front (title_of t.0.now) t.1.now t.2 };
 
     fn say<S: TextSink>(self, out: &mut S) {
-        let PairFront(title, count) = self;
+        let PairFront(title, rules, count) = self;
         say(
             out,
             (
@@ -28,6 +30,7 @@ impl<'a> Part for PairFront<'a> {
                     Name(title.right),
                     " - udsnorm report</title>\n<style>\n",
                     title.style,
+                    RulesStyle(rules),
                     "</style>\n</head>\n<body>\n<svg class=\"defs\" aria-hidden=\"true\" width=\"0\" height=\"0\">\n",
                     Shapes,
                 ),

@@ -4,17 +4,17 @@ ghost use Rattle.trace_report.specs.Items.{item_of};
 ghost use Rattle.trace_pair.specs.ItemRows as Spec;
 
 use crate::change_top::TopIf;
-use crate::difference_names::DifferenceName;
-use crate::log::{PairLog, has_item};
 use crate::losses::say_losses;
 use crate::pair_bytes::ToldPair;
 use crate::sessions::Sessions;
 use crate::told_items::{NoteOf, ToldItem};
+use pair_words::{DifferenceName, PairLog, has_item};
 use text_parts::{Part, say};
 use trace_io::TextSink;
 use trace_report::{KeptSession, PlacedItem};
 use trace_text::Ordinal;
 use uds_difference::Row;
+use uds_rules::Rules;
 
 /// Where a row stands: what it is, and how many items of both stand before it.
 #[derive(Clone, Copy)]
@@ -41,6 +41,7 @@ pub(crate) fn say_item_row<S: TextSink>(
 )
     ensures { S.says out.old (Spec.row_text sessions.entry.left.now sessions.entry.right.now place begun) out.new }
 {
+    let rules = sessions.left.rules();
     let one = row_item(PairLog::A, sessions.left, place);
     let other = row_item(PairLog::B, sessions.right, place);
     say(
@@ -49,13 +50,14 @@ pub(crate) fn say_item_row<S: TextSink>(
             RowStart(place.kind, begun),
             Numbers(place),
             TopIf {
+                rules,
                 begun,
                 kind: place.kind,
                 one,
                 other,
             },
             "<div class=\"it\">",
-            ItemsOfRow(place.kind, one, other),
+            ItemsOfRow(rules, place.kind, one, other),
             "</div><div class=\"ab\">",
             NoteIf(PairLog::A, sessions.left.first_time(), one),
             " ",
@@ -179,43 +181,49 @@ impl Part for NumberIf {
 
 /// The items of a row: what both have the same stands once.
 #[derive(Clone, Copy)]
-struct ItemsOfRow<'a>(Row, Option<PlacedItem<'a>>, Option<PlacedItem<'a>>);
+struct ItemsOfRow<'a>(
+    &'a Rules,
+    Row,
+    Option<PlacedItem<'a>>,
+    Option<PlacedItem<'a>>,
+);
 
 impl<'a> Part for ItemsOfRow<'a> {
     ghost use Rattle.std.specs.Prelude.{option_map};
     ghost use Rattle.trace_report.specs.Items.{item_of};
     ghost use Rattle.trace_pair.specs.ItemRows.{told};
 
-    ghost text = { λ t. told t.0 (option_map item_of t.1) (option_map item_of t.2) };
+    ghost text = { λ t. told t.0.now t.1 (option_map item_of t.2) (option_map item_of t.3) };
 
     fn say<S: TextSink>(self, out: &mut S) {
-        let ItemsOfRow(kind, one, other) = self;
+        let ItemsOfRow(rules, kind, one, other) = self;
         match kind {
             Row::Changed => {
                 if let (Some(one), Some(other)) = (one, other) {
-                    say(out, ToldPair(one, other));
+                    say(out, ToldPair(rules, one, other));
                 }
             }
-            Row::OnlyLeft => say(out, ToldIf(one)),
-            Row::Same | Row::OnlyRight => say(out, ToldIf(other)),
+            Row::OnlyLeft => say(out, ToldIf(rules, one)),
+            Row::Same | Row::OnlyRight => say(out, ToldIf(rules, other)),
         }
     }
 }
 
 /// An item, if there is one.
 #[derive(Clone, Copy)]
-struct ToldIf<'a>(Option<PlacedItem<'a>>);
+struct ToldIf<'a>(&'a Rules, Option<PlacedItem<'a>>);
 
 impl<'a> Part for ToldIf<'a> {
     ghost use Rattle.std.specs.Prelude.{option_map};
     ghost use Rattle.trace_report.specs.Items.{item_of};
     ghost use Rattle.trace_pair.specs.ItemRows.{told_if};
 
-    ghost text = { λ t. told_if (option_map item_of t.0) };
+    ghost text = { λ t. told_if t.0.now (option_map item_of t.1) };
 
     fn say<S: TextSink>(self, out: &mut S) {
-        if let Some(item) = self.0 {
-            say(out, ToldItem(item));
+        let ToldIf(rules, item) = self;
+        if let Some(item) = item {
+            say(out, ToldItem(rules, item));
         }
     }
 }

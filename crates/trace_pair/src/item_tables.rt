@@ -9,11 +9,11 @@ ghost use Rattle.trace_pair.specs.proving.Standings.{IsRoomy, row_or_fold, seen_
 
 use crate::folds::{Fold, say_fold};
 use crate::item_row::{Begun, RowPlace, say_item_row};
-use crate::log::PairLog;
 use crate::losses::say_losses;
 use crate::sessions::Sessions;
 use crate::standing::{Standing, Table};
 use crate::widths::ItemsClass;
+use pair_words::PairLog;
 use shown_rows::{change_at, count_changes, count_of, differs, folded, is_shown};
 use text_parts::{Either, Part, When, say};
 use trace_io::TextSink;

@@ -1,44 +1,46 @@
 //! Items in the words of a technician.
-ghost use Rattle.std.specs.Prelude.{◌≡◌, take};
+ghost use Rattle.std.specs.Prelude.{◌≡◌};
 ghost use Rattle.trace_pair.specs.ItemWords as Spec;
 
-use crate::long_names::PartedService;
 use crate::outcome::came_of;
 use direction::Dir;
+use pair_words::PartedService;
+use shown_bytes::{MoreWords, Piece, known_length};
 use text_parts::{Either, Part, say};
 use trace_io::TextSink;
-use trace_report::{BytesApart, MoreWords};
 use trace_text::{Number, Sender};
 use uds_exchange::Item;
 use uds_message::{TesterKind, sid, tester_kind};
+use uds_rules::Rules;
 
 /// How many bytes of a message are told in a sentence.
 const TOLD: usize = 8;
 
 /// What an item is, and how it begins.
 #[derive(Clone, Copy)]
-pub(crate) struct ItemTitle<'a>(pub Item<'a>);
+pub(crate) struct ItemTitle<'a>(pub &'a Rules, pub Item<'a>);
 
 impl<'a> Part for ItemTitle<'a> {
     ghost use Rattle.uds_exchange.specs.ItemSeen.{item_value};
     ghost use Rattle.trace_pair.specs.ItemWords.{item_title};
 
-    ghost text = { λ t. item_title (item_value t.0) };
+    ghost text = { λ t. item_title t.0.now (item_value t.1) };
 
     fn say<S: TextSink>(self, out: &mut S) {
-        match self.0 {
+        let ItemTitle(rules, item) = self;
+        match item {
             Item::Exchange { request, .. } => say(
                 out,
                 (
                     "<b>",
                     PartedService(sid(request)),
                     "</b> ",
-                    FirstBytes(request),
+                    FirstBytes(rules, request),
                 ),
             ),
             Item::Stray { dir, bytes } => {
                 if keeps_alive(dir, bytes) {
-                    say(out, ("<b>keep-alive</b> ", FirstBytes(bytes)));
+                    say(out, ("<b>keep-alive</b> ", FirstBytes(rules, bytes)));
                 } else {
                     say(
                         out,
@@ -46,7 +48,7 @@ impl<'a> Part for ItemTitle<'a> {
                             "<b>stray</b> <i>from the ",
                             Sender(dir),
                             "</i> ",
-                            FirstBytes(bytes),
+                            FirstBytes(rules, bytes),
                         ),
                     );
                 }
@@ -67,37 +69,58 @@ pub(crate) fn keeps_alive(dir: Dir, bytes: &[u8]) -> bool
 
 /// The first bytes of a message, and how many more it has.
 #[derive(Clone, Copy)]
-struct FirstBytes<'a>(&'a [u8]);
+struct FirstBytes<'a>(&'a Rules, &'a [u8]);
 
 impl<'a> Part for FirstBytes<'a> {
     ghost use Rattle.trace_pair.specs.ItemWords.{first_bytes};
 
-    ghost text = { λ bytes. first_bytes bytes.0.now };
+    ghost text = { λ t. first_bytes t.0.now t.1.now };
 
     fn say<S: TextSink>(self, out: &mut S) {
-        let bytes = self.0;
+        let FirstBytes(rules, bytes) = self;
+        let first = Piece {
+            rules,
+            message: bytes,
+            place: 0,
+            count: TOLD,
+        };
         let more = bytes.len().saturating_sub(TOLD) as u64;
         say(
             out,
             (
                 "<code>",
-                BytesApart(told(bytes)),
+                first,
                 "</code>",
                 Either(
                     bytes.len() <= TOLD,
                     (),
-                    (" <i>and ", Number(more), MoreWords(more), "</i>"),
+                    (
+                        MoreFront(known_length(rules, bytes)),
+                        Number(more),
+                        MoreWords(more),
+                        "</i>",
+                    ),
                 ),
             ),
         );
     }
 }
 
-/// The first bytes of a message.
-fn told(bytes: &[u8]) -> &[u8]
-    ensures { result.now ≡ take Spec.told_bytes bytes.now }
-{
-    &bytes[..TOLD.min(bytes.len())]
+/// What stands before how many more bytes a message has: at least so many, where it is not known how many it has.
+#[derive(Clone, Copy)]
+struct MoreFront(Option<u64>);
+
+impl Part for MoreFront {
+    ghost use Rattle.trace_pair.specs.ItemWords.{more_front};
+
+    ghost text = { λ t. more_front t.0 };
+
+    fn say<S: TextSink>(self, out: &mut S) {
+        match self.0 {
+            Some(_known) => say(out, " <i>and "),
+            None => say(out, " <i>and at least "),
+        }
+    }
 }
 
 /// What came of an item, behind its title, where it is an exchange.

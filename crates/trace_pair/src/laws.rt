@@ -5,10 +5,8 @@ ghost use Rattle.trace_pair.specs.ChartLaws.{ChartCountsTheRun, ChartHasTheItem}
 ghost use Rattle.trace_pair.specs.LinkLaws.{DifferencesAreTheChanges, LinksHaveTargets, LinksNameIdentifiers, LinksSpellIdentifiers, ListLeadsToTheTable};
 ghost use Rattle.trace_pair.specs.TableLaws.{EachItemStandsOnce, EachRowStandsOnce, UnfoldedRowsAreThoseOfHunks};
 ghost use Rattle.trace_pair.specs.LossLaws.{EachLossStandsOnce, LossyWhereLost};
-ghost use Rattle.trace_pair.specs.ColumnLaws.{EachByteIsCounted, EachLogHasItsLine, MarksAreOfColumnsThatDiffer};
 ghost use Rattle.trace_pair.specs.OutcomeLaws.{UnansweredHasNone};
 ghost use Rattle.trace_pair.specs.RowLaws.{EachItemHasItsRow, HeadingCountsTheRows};
-ghost use Rattle.trace_pair.specs.ByteLaws.{AloneBytesArePutIn};
 
 use trace_report::laws::items_are_the_meaning;
 
@@ -84,26 +82,6 @@ pub fn each_loss_stands_once()
 /// A log is said to be not clean at a change exactly where its rows there tell that something is missing.
 pub fn lossy_where_lost()
     ensures { LossyWhereLost }
-{}
-
-/// Each byte that differs has a mark, and no other.
-pub fn marks_are_of_columns_that_differ()
-    ensures { MarksAreOfColumnsThatDiffer }
-{}
-
-/// A line that stands once is what both logs have there, and any other stands as each has it.
-pub fn each_log_has_its_line()
-    ensures { EachLogHasItsLine }
-{}
-
-/// Of what is folded or not shown each byte is counted, and each that differs.
-pub fn each_byte_is_counted()
-    ensures { EachByteIsCounted }
-{}
-
-/// Bytes that are said to be in one log alone are put into the message of the other one, and no other differs.
-pub fn alone_bytes_are_put_in()
-    ensures { AloneBytesArePutIn }
 {}
 
 /// Each difference to which a link leads begins with a row of the table of items.

@@ -7,7 +7,7 @@ ghost use Rattle.trace_pair.specs.Verdict as Verdict;
 ghost use Rattle.trace_pair.specs.proving.Losing.{loss_if, lost, lost_if};
 ghost use Rattle.trace_report.specs.Rows.{missing_of, row_of};
 
-use crate::log::{LetterMark, PairLog, has_item, items_before};
+use pair_words::{LetterMark, PairLog, has_item, items_before};
 use shown_rows::Change;
 use text_parts::{Part, When, say};
 use trace_io::TextSink;

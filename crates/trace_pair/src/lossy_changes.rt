@@ -2,13 +2,13 @@
 ghost use Rattle.std.specs.Prelude.{◌≡◌, ◌≤◌, ◌<◌, ◌+◌, ◌^◌, ◌||◌, false, length, if◌then◌else◌};
 ghost use Rattle.std.specs.List.{list_any};
 ghost use Rattle.shown_rows.specs.Changes.{changes};
-ghost use Rattle.trace_pair.specs.declared.log.PairLog.TheVariants.{A, B};
+ghost use Rattle.pair_words.specs.declared.log.PairLog.TheVariants.{A, B};
 ghost use Rattle.trace_pair.specs.Verdict as Spec;
 ghost use Rattle.trace_pair.specs.proving.Changing.{count_if, is_lossy_if, lossy_if};
 
-use crate::log::PairLog;
 use crate::losses::is_lossy;
 use crate::sessions::Sessions;
+use pair_words::PairLog;
 use shown_rows::{Change, change_at, left_in, right_in};
 use text_parts::{Either, Part, say};
 use trace_io::TextSink;

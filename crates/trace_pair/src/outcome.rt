@@ -2,8 +2,7 @@
 ghost use Rattle.std.specs.Prelude.{◌≡◌, option_map};
 ghost use Rattle.trace_pair.specs.ItemWords as Spec;
 
-use crate::log::PairLog;
-use crate::long_names::PartedCode;
+use pair_words::{PairLog, PartedCode};
 use text_parts::{Either, Part, say};
 use trace_io::TextSink;
 use uds_message::{is_negative_response, is_suppressing, response_code};

@@ -11,17 +11,19 @@ use crate::first::say_first;
 use crate::front::PairFront;
 use crate::help::PairHelp;
 use crate::item_tables::say_items;
-use crate::log::{LetteredName, PairLog};
+use crate::pair_rules::say_rules;
 use crate::recordings::say_recordings;
 use crate::sessions::Sessions;
 use crate::title::Title;
 use crate::verdict::say_verdict;
+use pair_words::{LetteredName, PairLog};
 use shown_rows::count_changes;
 use text_parts::{Either, Part, say};
 use trace_io::{Target, TextSink};
 use trace_log::{CompareFault, Fault};
 use trace_report::{CauseLine, Counts, KeptSession, Refusal, RefusalCause, SpanOf, VerdictHead};
 use trace_run::print;
+use uds_rules::Rules;
 
 /// Writes the page of what is answered of two logs, where this is the cause of a refusal. Nothing is written where a
 /// device failed or memory was refused.
@@ -88,7 +90,9 @@ fn say_aligned<S: TextSink>(title: &Title<'_>, aligned: &Aligned, out: &mut S)
     let sessions = aligned.sessions();
     let found = aligned.found();
     let rows = found.rows;
-    say(out, PairFront(title, count_changes(rows)));
+    let front = PairFront(title, sessions.left.rules(), count_changes(rows));
+    say(out, front);
+    say_rules(sessions, out);
     say_verdict(found, sessions, out);
     say_recordings(title.left, title.right, sessions, out);
     say(out, "</section>\n<main>\n");
@@ -149,7 +153,7 @@ fn say_unread<S: TextSink>(
         say(
             out,
             (
-                PairFront(title, 0),
+                PairFront(title, &Rules::none(), 0),
                 VerdictHead("bad", "&#10005;"),
                 log,
                 " is refused, so nothing is compared</h2>\n<p><em>",

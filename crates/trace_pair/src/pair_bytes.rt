@@ -1,36 +1,38 @@
 //! Two items that changed, one above the other.
 ghost use Rattle.std.specs.Prelude.{◌≡◌};
 ghost use Rattle.trace_report.specs.Items.{item_of};
+ghost use Rattle.trace_pair.specs.ItemRows as Spec;
 ghost use Rattle.trace_pair.specs.ItemRows.{both_bytes, outcome_by};
 
-use crate::column_lines::{ShownLogs, have_word, say_columns};
-use crate::log::{LetterMark, PairLog};
-use crate::long_names::PartedRoleWords;
 use crate::outcome::{Outcome, OutcomeMark, came_of, same_outcome};
+use crate::parted_roles::PartedRoleWords;
 use crate::told_items::ToldAnswer;
 use byte_columns::ByteColumns;
+use pair_words::{LetterMark, PairLog, ShownLogs, have_word, say_columns};
+use shown_bytes::Data;
 use text_parts::{Either, Part, When, say};
 use trace_io::TextSink;
-use trace_report::{Data, PlacedItem, RowMessage, is_request_role};
+use trace_report::{PlacedItem, RowMessage, is_request_role};
+use uds_rules::Rules;
 
 /// Two items that changed: what is the same once, what differs byte under byte, and other outcomes in lines of their own.
 #[derive(Clone, Copy)]
-pub(crate) struct ToldPair<'a>(pub PlacedItem<'a>, pub PlacedItem<'a>);
+pub(crate) struct ToldPair<'a>(pub &'a Rules, pub PlacedItem<'a>, pub PlacedItem<'a>);
 
 impl<'a> Part for ToldPair<'a> {
     ghost use Rattle.trace_report.specs.Items.{item_of};
     ghost use Rattle.trace_pair.specs.ItemRows.{told_pair};
 
-    ghost text = { λ t. told_pair (item_of t.0) (item_of t.1) };
+    ghost text = { λ t. told_pair t.0.now (item_of t.1) (item_of t.2) };
 
     fn say<S: TextSink>(self, out: &mut S) {
-        let ToldPair(one, other) = self;
-        let answers = Answers(one, other);
+        let ToldPair(rules, one, other) = self;
+        let answers = Answers(rules, one, other);
         let same = same_outcome(outcome_by(one), outcome_by(other));
         say(
             out,
             (
-                OfBoth(one.begin, other.begin),
+                OfBoth(rules, one.begin, other.begin),
                 When(
                     is_request_role(one.begin.sent.role),
                     Either(
@@ -56,36 +58,78 @@ pub(crate) fn outcome_by(item: PlacedItem<'_>) -> Outcome
 
 /// A message of two items, once where it is the same in both.
 #[derive(Clone, Copy)]
-struct OfBoth<'a>(RowMessage<'a>, RowMessage<'a>);
+struct OfBoth<'a>(&'a Rules, RowMessage<'a>, RowMessage<'a>);
 
 impl<'a> Part for OfBoth<'a> {
     ghost use Rattle.trace_report.specs.Items.{message_of};
     ghost use Rattle.trace_pair.specs.ItemRows.{message_of_both};
 
-    ghost text = { λ t. message_of_both (message_of t.0) (message_of t.1) };
+    ghost text = { λ t. message_of_both t.0.now (message_of t.1) (message_of t.2) };
 
     fn say<S: TextSink>(self, out: &mut S) {
-        let OfBoth(one, other) = self;
+        let OfBoth(rules, one, other) = self;
         say(out, PartedRoleWords(one.sent.role, one.sent.dir, one.bytes));
         if one.bytes == other.bytes {
-            say(out, Data(one.bytes));
+            say(
+                out,
+                Data {
+                    rules,
+                    message: one.bytes,
+                },
+            );
         } else {
-            say_both_bytes(one.bytes, other.bytes, out);
+            say_both_bytes(rules, one.bytes, other.bytes, out);
         }
     }
 }
 
-/// Says two messages byte under byte; as text, too, where one of them may be text.
-fn say_both_bytes<S: TextSink>(one: &[u8], other: &[u8], out: &mut S)
-    ensures { S.says out.old (both_bytes one.now other.now) out.new }
+/// Says two messages that differ: byte under byte, and as text, too, where one of them may be text; but where rules mask one of
+/// them, each in a line of its own.
+fn say_both_bytes<S: TextSink>(rules: &Rules, one: &[u8], other: &[u8], out: &mut S)
+    ensures { S.says out.old (both_bytes rules.now one.now other.now) out.new }
 {
-    let columns = ByteColumns::of(one, other);
-    say_columns(ShownLogs::Both, have_word(one, other), &columns, out);
+    if are_masked(rules, one, other) {
+        say(
+            out,
+            (
+                "<div class=\"hx out\">",
+                MessageLine(rules, PairLog::A, one),
+                MessageLine(rules, PairLog::B, other),
+                "</div>",
+            ),
+        );
+    } else {
+        let columns = ByteColumns::of(one, other);
+        say_columns(ShownLogs::Both, have_word(one, other), &columns, out);
+    }
 }
 
-/// The answers of two exchanges.
+/// Whether rules mask one of two messages that they have left.
+pub(crate) fn are_masked(rules: &Rules, one: &[u8], other: &[u8]) -> bool
+    ensures { result ≡ Spec.are_masked rules.now one.now other.now }
+{
+    rules.mask_of(one).is_some() || rules.mask_of(other).is_some()
+}
+
+/// The message of a log in a line of its own.
 #[derive(Clone, Copy)]
-struct Answers<'a>(PlacedItem<'a>, PlacedItem<'a>);
+struct MessageLine<'a>(&'a Rules, PairLog, &'a [u8]);
+
+impl<'a> Part for MessageLine<'a> {
+    ghost use Rattle.trace_pair.specs.ItemRows.{message_line};
+
+    ghost text = { λ t. message_line t.0.now t.1 t.2.now };
+
+    fn say<S: TextSink>(self, out: &mut S) {
+        let MessageLine(rules, log, message) = self;
+        let shown = Data { rules, message };
+        say(out, ("<div>", LetterMark(log), shown, "</div>"));
+    }
+}
+
+/// The answers of two exchanges, under these rules.
+#[derive(Clone, Copy)]
+struct Answers<'a>(&'a Rules, PlacedItem<'a>, PlacedItem<'a>);
 
 /// The answers of two exchanges that have the same outcome: byte under byte.
 #[derive(Clone, Copy)]
@@ -95,13 +139,15 @@ impl<'a> Part for SameOutcomes<'a> {
     ghost use Rattle.trace_report.specs.Items.{item_of};
     ghost use Rattle.trace_pair.specs.ItemRows.{same_outcomes};
 
-    ghost text = { λ t. same_outcomes (item_of t.0.0).begin.bytes (item_of t.0.0).answer (item_of t.0.1).answer };
+    ghost text = { λ t. same_outcomes t.0.0.now (item_of t.0.1).begin.bytes (item_of t.0.1).answer (item_of t.0.2).answer };
 
     fn say<S: TextSink>(self, out: &mut S) {
-        let Answers(one, other) = self.0;
+        let Answers(rules, one, other) = self.0;
         match (one.answer, other.answer) {
-            (Some(answer), Some(reply)) => say(out, OfBoth(answer, reply)),
-            (None, _) | (Some(_), None) => say(out, ToldAnswer(one.begin.bytes, one.answer)),
+            (Some(answer), Some(reply)) => say(out, OfBoth(rules, answer, reply)),
+            (None, _) | (Some(_), None) => {
+                say(out, ToldAnswer(rules, one.begin.bytes, one.answer))
+            }
         }
     }
 }
@@ -114,16 +160,16 @@ impl<'a> Part for OtherOutcomes<'a> {
     ghost use Rattle.trace_report.specs.Items.{item_of};
     ghost use Rattle.trace_pair.specs.ItemRows.{other_outcomes};
 
-    ghost text = { λ t. other_outcomes (item_of t.0.0).begin.bytes (item_of t.0.0).answer (item_of t.0.1).begin.bytes (item_of t.0.1).answer };
+    ghost text = { λ t. other_outcomes t.0.0.now (item_of t.0.1).begin.bytes (item_of t.0.1).answer (item_of t.0.2).begin.bytes (item_of t.0.2).answer };
 
     fn say<S: TextSink>(self, out: &mut S) {
-        let Answers(one, other) = self.0;
+        let Answers(rules, one, other) = self.0;
         say(
             out,
             (
                 "<div class=\"hx out\">",
-                OutcomeLine(PairLog::A, one),
-                OutcomeLine(PairLog::B, other),
+                OutcomeLine(rules, PairLog::A, one),
+                OutcomeLine(rules, PairLog::B, other),
                 "</div>",
             ),
         );
@@ -132,16 +178,16 @@ impl<'a> Part for OtherOutcomes<'a> {
 
 /// The outcome of an exchange in one log, with a mark, and the bytes of its answer.
 #[derive(Clone, Copy)]
-struct OutcomeLine<'a>(PairLog, PlacedItem<'a>);
+struct OutcomeLine<'a>(&'a Rules, PairLog, PlacedItem<'a>);
 
 impl<'a> Part for OutcomeLine<'a> {
     ghost use Rattle.trace_report.specs.Items.{item_of};
     ghost use Rattle.trace_pair.specs.ItemRows.{outcome_line};
 
-    ghost text = { λ t. outcome_line t.0 (item_of t.1).begin.bytes (item_of t.1).answer };
+    ghost text = { λ t. outcome_line t.0.now t.1 (item_of t.2).begin.bytes (item_of t.2).answer };
 
     fn say<S: TextSink>(self, out: &mut S) {
-        let OutcomeLine(log, item) = self;
+        let OutcomeLine(rules, log, item) = self;
         say(
             out,
             (
@@ -150,7 +196,7 @@ impl<'a> Part for OutcomeLine<'a> {
                 "&#8594; <mark>",
                 OutcomeMark(outcome_by(item)),
                 "</mark>",
-                AnswerData(item.answer),
+                AnswerData(rules, item.answer),
                 "</div>",
             ),
         );
@@ -159,18 +205,23 @@ impl<'a> Part for OutcomeLine<'a> {
 
 /// The bytes of an answer, if there is one, behind what it is.
 #[derive(Clone, Copy)]
-struct AnswerData<'a>(Option<RowMessage<'a>>);
+struct AnswerData<'a>(&'a Rules, Option<RowMessage<'a>>);
 
 impl<'a> Part for AnswerData<'a> {
     ghost use Rattle.std.specs.Prelude.{option_map};
     ghost use Rattle.trace_report.specs.Items.{message_of};
     ghost use Rattle.trace_pair.specs.ItemRows.{answer_data};
 
-    ghost text = { λ t. answer_data (option_map message_of t.0) };
+    ghost text = { λ t. answer_data t.0.now (option_map message_of t.1) };
 
     fn say<S: TextSink>(self, out: &mut S) {
-        if let Some(reply) = self.0 {
-            say(out, (" ", Data(reply.bytes)));
+        let AnswerData(rules, answer) = self;
+        if let Some(reply) = answer {
+            let shown = Data {
+                rules,
+                message: reply.bytes,
+            };
+            say(out, (" ", shown));
         }
     }
 }

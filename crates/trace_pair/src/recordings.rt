@@ -1,14 +1,14 @@
 //! What was found of both logs.
 ghost use Rattle.trace_pair.specs.Recordings.{recording, recordings};
 
-use crate::dates::Moment;
-use crate::log::{LetteredName, PairLog};
 use crate::sessions::Sessions;
+use pair_words::{LetteredName, Moment, PairLog};
 use text_parts::{Part, say};
 use trace_io::TextSink;
 use trace_log::Summary;
 use trace_report::{KeptSession, Seconds, UncleanReasons, is_called_clean};
 use trace_text::Number;
+use uds_rules::Rules;
 
 /// Says the table of both recordings.
 pub(crate) fn say_recordings<S: TextSink>(
@@ -39,7 +39,7 @@ fn say_recording<S: TextSink>(log: PairLog, name: &[u8], session: &KeptSession, 
             "<tr><th scope=\"row\">",
             LetteredName(log, name),
             "<td>",
-            State(&summary),
+            State(session.rules(), &summary),
             "<td>",
             Number(session.rows().item_count() as u64),
             RecordingTimes {
@@ -52,21 +52,21 @@ fn say_recording<S: TextSink>(log: PairLog, name: &[u8], session: &KeptSession, 
     );
 }
 
-/// Whether a recording is called clean, and each reason why it isn't.
+/// Whether a recording is called clean, and each reason why it isn't, by the rules that its messages are under.
 #[derive(Clone, Copy)]
-struct State<'a>(pub &'a Summary);
+struct State<'a>(&'a Rules, &'a Summary);
 
 impl<'a> Part for State<'a> {
     ghost use Rattle.trace_pair.specs.Recordings.{state};
 
-    ghost text = { λ t. state t.0.now };
+    ghost text = { λ t. state t.0.now t.1.now };
 
     fn say<S: TextSink>(self, out: &mut S) {
-        let summary = self.0;
+        let State(rules, summary) = self;
         if is_called_clean(summary) {
             say(out, "clean");
         } else {
-            say(out, (StateStart(summary), UncleanReasons(summary)));
+            say(out, (StateStart(summary), UncleanReasons(rules, summary)));
         }
     }
 }

@@ -4,7 +4,7 @@ ghost use Rattle.trace_pair.specs.Verdict.{is_beyond_doubt};
 
 use text_parts::{Either, Part, say};
 use trace_io::TextSink;
-use trace_report::VerdictHead;
+use trace_report::{RulesWord, VerdictHead};
 use trace_text::Number;
 
 /// None of the two has an item.
@@ -28,9 +28,11 @@ impl Part for NothingVerdict {
     }
 }
 
-/// The heading of sessions that are the same: in green only where they are so without a doubt.
+/// The heading of sessions that are the same, under so many rules: in green only where they are so without a doubt, and under
+/// none.
 #[derive(Clone, Copy)]
 pub(crate) struct SameHeading {
+    pub rules: u64,
     pub exchanged: bool,
     pub asked: bool,
     pub left_clean: bool,
@@ -49,13 +51,13 @@ impl SameHeading {
 impl Part for SameHeading {
     ghost use Rattle.trace_pair.specs.Verdict.{same_heading};
 
-    ghost text = { λ h. same_heading h.exchanged h.asked h.left_clean h.right_clean };
+    ghost text = { λ h. same_heading h.rules h.exchanged h.asked h.left_clean h.right_clean };
 
     fn say<S: TextSink>(self, out: &mut S) {
         say(
             out,
             (
-                SameStart(self.is_beyond_doubt()),
+                SameStart(self.rules, self.is_beyond_doubt()),
                 RecordedWords {
                     left_clean: self.left_clean,
                     right_clean: self.right_clean,
@@ -70,25 +72,59 @@ impl Part for SameHeading {
     }
 }
 
-/// The start of that heading, in green or not.
+/// The start of that heading under so many rules, without a doubt or with one.
 #[derive(Clone, Copy)]
-struct SameStart(bool);
+struct SameStart(u64, bool);
 
 impl Part for SameStart {
     ghost use Rattle.trace_pair.specs.Verdict.{same_start};
 
-    ghost text = { λ start. same_start start.0 };
+    ghost text = { λ start. same_start start.0 start.1 };
 
     fn say<S: TextSink>(self, out: &mut S) {
-        let green = VerdictHead("good", "=");
+        let SameStart(rules, beyond_doubt) = self;
         let doubt = VerdictHead("warn", "!");
         say(
             out,
             (
-                Either(self.0, green, doubt),
+                Either(beyond_doubt, SameHead(rules), doubt),
                 "The two sessions are the same",
+                UnderWords(rules),
             ),
         );
+    }
+}
+
+/// The head of sessions that are the same without a doubt: in green where they are under no rule, and else in a colour and with a
+/// sign of its own.
+#[derive(Clone, Copy)]
+struct SameHead(u64);
+
+impl Part for SameHead {
+    ghost use Rattle.trace_pair.specs.Verdict.{same_head};
+
+    ghost text = { λ head. same_head head.0 };
+
+    fn say<S: TextSink>(self, out: &mut S) {
+        let green = VerdictHead("good", "=");
+        let ruled = VerdictHead("ruled", "&#8776;");
+        say(out, Either(self.0 == 0, green, ruled));
+    }
+}
+
+/// That sessions are under so many rules, where they are under one.
+#[derive(Clone, Copy)]
+struct UnderWords(u64);
+
+impl Part for UnderWords {
+    ghost use Rattle.trace_pair.specs.Verdict.{under_words};
+
+    ghost text = { λ words. under_words words.0 };
+
+    fn say<S: TextSink>(self, out: &mut S) {
+        if self.0 > 0 {
+            say(out, (" under ", RulesWord(self.0)));
+        }
     }
 }
 
@@ -139,28 +175,49 @@ impl Part for DoubtWords {
     }
 }
 
-/// That so many items are the same.
+/// That so many items are the same, under so many rules.
 #[derive(Clone, Copy)]
-pub(crate) struct SameItems(pub usize);
+pub(crate) struct SameItems(pub u64, pub usize);
 
 impl Part for SameItems {
     ghost use Rattle.trace_pair.specs.Verdict.{same_items};
 
-    ghost text = { λ items. same_items items.0 };
+    ghost text = { λ items. same_items items.0 items.1 };
 
     fn say<S: TextSink>(self, out: &mut S) {
+        let SameItems(rules, count) = self;
         let several = (
-            "<p>Each of the ",
-            Number(self.0 as u64),
+            "Each of the ",
+            Number(count as u64),
             " items is equal in both, byte for byte.</p>\n",
         );
         say(
             out,
-            Either(
-                self.0 == 1,
-                "<p>One item is equal in both, byte for byte.</p>\n",
-                several,
+            (
+                "<p>",
+                ComparedWords(rules),
+                Either(
+                    count == 1,
+                    "One item is equal in both, byte for byte.</p>\n",
+                    several,
+                ),
             ),
         );
+    }
+}
+
+/// What is compared under so many rules, in front of how many items are the same.
+#[derive(Clone, Copy)]
+struct ComparedWords(u64);
+
+impl Part for ComparedWords {
+    ghost use Rattle.trace_pair.specs.Verdict.{compared_words};
+
+    ghost text = { λ words. compared_words words.0 };
+
+    fn say<S: TextSink>(self, out: &mut S) {
+        if self.0 > 0 {
+            say(out, "Of what the rules leave: ");
+        }
     }
 }

@@ -1,47 +1,55 @@
 //! Items as rows tell them.
-use crate::log::{LetterMark, PairLog};
-use crate::long_names::PartedRoleWords;
+use crate::parted_roles::PartedRoleWords;
+use pair_words::{LetterMark, PairLog};
+use shown_bytes::Data;
 use text_parts::{Part, When, say};
 use trace_io::TextSink;
 use trace_report::{
-    Data, FurtherNote, MessagePlace, NamedLines, PlacedItem, RowMessage, Seconds, asked_at,
+    FurtherNote, MessagePlace, NamedLines, PlacedItem, RowMessage, Seconds, asked_at,
     is_request_role,
 };
 use uds_message::is_suppressing;
+use uds_rules::Rules;
 
-/// A message: what it is, and its bytes.
+/// A message that rules have left: what it is, and its bytes.
 #[derive(Clone, Copy)]
-pub(crate) struct ToldMessage<'a>(pub RowMessage<'a>);
+pub(crate) struct ToldMessage<'a>(pub &'a Rules, pub RowMessage<'a>);
 
 impl<'a> Part for ToldMessage<'a> {
     ghost use Rattle.trace_report.specs.Items.{message_of};
     ghost use Rattle.trace_pair.specs.ToldItems.{told_message};
 
-    ghost text = { λ t. told_message (message_of t.0) };
+    ghost text = { λ t. told_message t.0.now (message_of t.1) };
 
     fn say<S: TextSink>(self, out: &mut S) {
-        let sent = self.0.sent;
-        let bytes = self.0.bytes;
-        let words = PartedRoleWords(sent.role, sent.dir, bytes);
-        say(out, (words, Data(bytes)));
+        let ToldMessage(
+            rules,
+            RowMessage {
+                sent,
+                bytes: message,
+            },
+        ) = self;
+        let words = PartedRoleWords(sent.role, sent.dir, message);
+        say(out, (words, Data { rules, message }));
     }
 }
 
 /// The answer to a request, or what stands in its place.
 #[derive(Clone, Copy)]
-pub(crate) struct ToldAnswer<'a>(pub &'a [u8], pub Option<RowMessage<'a>>);
+pub(crate) struct ToldAnswer<'a>(pub &'a Rules, pub &'a [u8], pub Option<RowMessage<'a>>);
 
 impl<'a> Part for ToldAnswer<'a> {
     ghost use Rattle.std.specs.Prelude.{option_map};
     ghost use Rattle.trace_report.specs.Items.{message_of};
     ghost use Rattle.trace_pair.specs.ToldItems.{told_answer};
 
-    ghost text = { λ t. told_answer t.0.now (option_map message_of t.1) };
+    ghost text = { λ t. told_answer t.0.now t.1.now (option_map message_of t.2) };
 
     fn say<S: TextSink>(self, out: &mut S) {
-        match self.1 {
-            Some(reply) => say(out, ToldMessage(reply)),
-            None => say(out, MissingAnswer(is_suppressing(self.0))),
+        let ToldAnswer(rules, request, answer) = self;
+        match answer {
+            Some(reply) => say(out, ToldMessage(rules, reply)),
+            None => say(out, MissingAnswer(is_suppressing(request))),
         }
     }
 }
@@ -66,21 +74,22 @@ impl Part for MissingAnswer {
 
 /// An item: a request with its answer behind an arrow, or a message.
 #[derive(Clone, Copy)]
-pub(crate) struct ToldItem<'a>(pub PlacedItem<'a>);
+pub(crate) struct ToldItem<'a>(pub &'a Rules, pub PlacedItem<'a>);
 
 impl<'a> Part for ToldItem<'a> {
     ghost use Rattle.trace_report.specs.Items.{item_of};
     ghost use Rattle.trace_pair.specs.ToldItems.{told_item};
 
-    ghost text = { λ t. told_item (item_of t.0) };
+    ghost text = { λ t. told_item t.0.now (item_of t.1) };
 
     fn say<S: TextSink>(self, out: &mut S) {
-        let PlacedItem { begin, answer } = self.0;
-        let reply = (" &#8594; ", ToldAnswer(begin.bytes, answer));
+        let ToldItem(rules, item) = self;
+        let PlacedItem { begin, answer } = item;
+        let reply = (" &#8594; ", ToldAnswer(rules, begin.bytes, answer));
         say(
             out,
             (
-                ToldMessage(begin),
+                ToldMessage(rules, begin),
                 When(is_request_role(begin.sent.role), reply),
             ),
         );

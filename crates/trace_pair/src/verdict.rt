@@ -72,16 +72,18 @@ fn say_same<S: TextSink>(count: usize, sessions: Sessions<'_>, out: &mut S)
 {
     let left = sessions.left.summary();
     let right = sessions.right.summary();
+    let rules = sessions.left.rules().as_slice().len() as u64;
     say(
         out,
         (
             SameHeading {
+                rules,
                 exchanged: look_exchanged(&left, &right),
                 asked: has_request(sessions.left),
                 left_clean: left.is_clean(),
                 right_clean: right.is_clean(),
             },
-            SameItems(count),
+            SameItems(rules, count),
             SizeLine(count),
         ),
     );

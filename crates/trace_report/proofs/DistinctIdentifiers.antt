@@ -10,6 +10,8 @@ use Rattle.can_log.proofs.Promises.{AllByRecursion-tested, AllByRecursion-weaker
 use Rattle.isotp_receive.proofs.Promises.{messages_are_few}
 use Rattle.isotp_receive.specs.declared.TheConstants.{MESSAGE_LIMIT}
 use Rattle.isotp_receive.specs.Verdict.{messages}
+use Rattle.uds_rules.proofs.Promises.{left_out_are_the_rest}
+use Rattle.trace_log.specs.Messages.{messages_under}
 use Rattle.trace_log.specs.Trace.{trace}
 use Rattle.uds_exchange.proofs.Promises.{items_within_messages}
 use Rattle.uds_exchange.specs.Meaning.{meaning}
@@ -136,14 +138,17 @@ identifiers_stand_once settings meanings few =
     let T = trace settings meanings in
     let lines = 1 + length meanings in
     let grow = trace-grows settings 1 meanings in
-    let placed = rows-placed T 1 lines grow in
+    let placed = rows-placed settings.rules T 1 lines grow in
     let frames = grown-few 1 lines T grow in
     let sent = messages_are_few MESSAGE_LIMIT T in
-    let told = items_within_messages (messages MESSAGE_LIMIT T) in
-    let items = length (meaning (messages MESSAGE_LIMIT T)) in
-    let low : items < 2 ^ 64 = omega (arith, frames, sent, told, few) in
-    let some : lines ≤ 2 ^ 64 = omega (arith, few) in
-    (stand-once items lines 2 (all_rows MESSAGE_LIMIT T) low some (all-placed T lines placed), stand-once items lines 0 (rows_of MESSAGE_LIMIT T) low some placed)
+    let left = left_out_are_the_rest settings.rules (messages MESSAGE_LIMIT T) in
+    let told = items_within_messages (messages_under settings.rules MESSAGE_LIMIT T) in
+    let items = length (meaning (messages_under settings.rules MESSAGE_LIMIT T)) in
+    let low : items < 2 ^ 64 = omega (arith, frames, sent, left, told, few) in
+    let some : lines ≤ 2 ^ 64 = omega (arith, few) in (
+      stand-once items lines 2 (all_rows MESSAGE_LIMIT settings.rules T) low some (all-placed settings.rules T lines placed),
+      stand-once items lines 0 (rows_of MESSAGE_LIMIT settings.rules T) low some placed,
+    )
 
 -- The links of a verdict.
 
@@ -201,6 +206,8 @@ pub links_have_targets : LinksHaveTargets
 links_have_targets settings meanings =
     let T = trace settings meanings in
     let lines = 1 + length meanings in
-    let items = length (meaning (messages MESSAGE_LIMIT T)) in
-    let placed = rows-placed T 1 lines (trace-grows settings 1 meanings) in
-    (has-each items lines 2 (all_rows MESSAGE_LIMIT T) (all-placed T lines placed), has-each items lines 0 (rows_of MESSAGE_LIMIT T) placed)
+    let items = length (meaning (messages_under settings.rules MESSAGE_LIMIT T)) in
+    let placed = rows-placed settings.rules T 1 lines (trace-grows settings 1 meanings) in (
+      has-each items lines 2 (all_rows MESSAGE_LIMIT settings.rules T) (all-placed settings.rules T lines placed),
+      has-each items lines 0 (rows_of MESSAGE_LIMIT settings.rules T) placed,
+    )

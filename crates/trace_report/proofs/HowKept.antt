@@ -9,7 +9,8 @@ use Rattle.trace_log.specs.Needing.{HasFrame}
 use Rattle.trace_log.specs.Settings.{Settings}
 use Rattle.trace_log.specs.Summing.{summary_of}
 use Rattle.trace_run.proofs.Promises.{SaysNothing}
-use Rattle.trace_run.specs.Ran.{AnswersAndWrites, CantBeRead}
+use Rattle.trace_run.specs.Stopping.{CantBeRead}
+use Rattle.trace_run.specs.AnswersAndWrites.{AnswersAndWrites}
 use Rattle.trace_log.specs.Trace.{trace}
 use Rattle.trace_log.specs.declared.fault.Fault.{Fault}
 use Rattle.trace_log.specs.declared.fault.Fault.TheVariants.{BadLine, Oversize, LogLimit, OutputLimit, Read, Write, Memory}
@@ -53,7 +54,7 @@ last_known (x ∷ T) times is = ap last_of_times is
 
 module _ (settings : Settings) (log : List ℕ) (given : ℕ) (old new : List ℕ) where
   -- what is answered of a log that can't be read
-  pub unread_so : (fault : Fault) → AnswersAndWrites quiet_command MESSAGE_LIMIT settings log given (Err fault) old new
+  pub unread_so : (fault : Fault) → AnswersAndWrites (quiet_command settings.rules) MESSAGE_LIMIT settings log given (Err fault) old new
       → CantBeRead settings log fault
   unread_so (BadLine line column) answered = answered.0
   unread_so (Oversize line announced) answered = answered.0
@@ -65,16 +66,17 @@ module _ (settings : Settings) (log : List ℕ) (given : ℕ) (old new : List �
 
   -- and of one that can, where this session is of what was heard
   pub read_so : (heard : Heard) (session : SessionValue)
-      → ((T : List Entry) (summary : Summary) → IsHeardOf T summary heard → session ≡ session_of MESSAGE_LIMIT T summary)
-      → AnswersAndWrites quiet_command MESSAGE_LIMIT settings log given (Ok heard) old new → KeepsOne MESSAGE_LIMIT settings log (Ok session)
+      → ((T : List Entry) (summary : Summary) → IsHeardOf settings.rules T summary heard → session ≡ session_of MESSAGE_LIMIT settings.rules T summary)
+      → AnswersAndWrites (quiet_command settings.rules) MESSAGE_LIMIT settings log given (Ok heard) old new → KeepsOne MESSAGE_LIMIT settings log (Ok session)
   read_so heard session is (all, meanings, read, answer, wrote) =
       (meanings, read, is (trace settings meanings) (summary_of MESSAGE_LIMIT settings log meanings) answer)
 
   -- the log has a frame where a row of its end is there
-  pub has_own_where_kept : (heard : Heard) → rows_in heard.last ≢ [] → AnswersAndWrites quiet_command MESSAGE_LIMIT settings log given (Ok heard) old new
+  pub has_own_where_kept : (heard : Heard) → rows_in heard.last ≢ []
+      → AnswersAndWrites (quiet_command settings.rules) MESSAGE_LIMIT settings log given (Ok heard) old new
       → HasOwnFrame settings log
   has_own_where_kept heard some (all, meanings, read, answer, wrote) =
-      has_own_frame settings log meanings read.1 (λ none. some (answer.last ∙ ap (λ (T : List Entry). end_rows MESSAGE_LIMIT T) none))
+      has_own_frame settings log meanings read.1 (λ none. some (answer.last ∙ ap (λ (T : List Entry). end_rows MESSAGE_LIMIT settings.rules T) none))
 
 -- and where a frame of it needs memory
 pub has_own_where_needed : (needs : List Entry → Entry → Type 0) (settings : Settings) (log : List ℕ) → HasFrame needs settings log → HasOwnFrame settings log

@@ -4,8 +4,6 @@ mod Steps
 mod FrameCounting
 mod Meeting
 mod HowKept
-mod BytesBehind
-mod WordPlaces
 mod ItemValues
 mod SessionItems
 mod RowNumbers
@@ -18,7 +16,6 @@ mod LineOrder
 mod RowPlaces
 mod RowTargets
 mod DistinctIdentifiers
-pub mod Harmless
 pub mod PageStyle
 pub mod ToldAnswers
 pub mod ToldTimes

@@ -7,15 +7,18 @@ use Rattle.direction.specs.declared.Dir.{Dir}
 use Rattle.isotp_receive.specs.declared.TheConstants.{MESSAGE_LIMIT}
 use Rattle.isotp_receive.specs.StandingReception.{stands}
 use Rattle.isotp_receive.specs.Trace.{Entry, role}
-use Rattle.isotp_receive.specs.Verdict.{EventValue, VerdictValue, message, began, stored, flowed, dropped, messages, told_message, verdict}
+use Rattle.isotp_receive.specs.Verdict.{EventValue, VerdictValue, message, began, stored, flowed, dropped, told_message, verdict}
 use Rattle.isotp_receive.specs.EventSeen.{seen_event}
+use Rattle.uds_rules.specs.Rule.{RuleValue, made_of}
+use Rattle.uds_rules.specs.Under.{sent_as, under}
+use Rattle.trace_log.specs.Messages.{messages_under}
 use Rattle.trace_run.specs.Seen.{IsSeen}
 use Rattle.trace_run.specs.declared.machine.Seen.{Seen}
-use Rattle.trace_run.proofs.Promises.{tells_no_message}
 use Rattle.trace_report.specs.Rows as row
 use Rattle.uds_exchange.specs.Laws.{open_with}
 use Rattle.uds_exchange.specs.Meaning.{is_answer_to, is_tester_request}
-use Rattle.uds_exchange.specs.Judging.{number_after, step_after}
+use Rattle.uds_exchange.specs.Judging.{number_after, sent, step_after}
+use Rattle.uds_exchange.specs.declared.judge.Judged.{Judged}
 use Rattle.uds_exchange.specs.OneMessage.{step_if_open, step_of}
 use Rattle.uds_exchange.specs.Order.{open_request}
 use Rattle.uds_exchange.proofs.Promises.{open_request_goes_on}
@@ -23,8 +26,8 @@ use Rattle.uds_message.specs.Message.{sid, is_final_for, is_pending_for, is_supp
 use Rattle.uds_exchange.specs.Meaning.{is_from_tester}
 use Rattle.trace_canon.specs.FirstFrames.{first_frame, place_of}
 use Rattle.trace_canon.specs.declared.reception_starts.FramePlace.{FramePlace}
-use Rattle.trace_run.proofs.Promises.{messages_next}
-use Rattle.trace_report.specs.Events.{asked_in, closing_before, completes_request, completes_request_by, ended_rows, event_rows, frame_rows, frames_by, is_request_step, ends_nothing, verdict_rows}
+use Rattle.trace_run.proofs.Promises.{CompletesJudged, completes_none, tells_no_message}
+use Rattle.trace_report.specs.Events.{asked_in, closing_before, completes_request, completes_request_by, ended_rows, event_rows, frame_rows, frames_by, is_request_left, is_request_step, ends_nothing, left_rows, verdict_rows}
 use Rattle.trace_report.specs.Roles.{role_of_step}
 use Rattle.trace_report.specs.Rows.{RowValue}
 use Rattle.trace_report.specs.Rows.{message as tells_message}
@@ -76,90 +79,103 @@ silent_still M sent silent is same =
     by (Some request) same =
         elim (cases_Bool (is_answer_to request sent)) [ inl e ↦ rw (apart, e) tt | inr e ↦ rw (apart, e) same ]
 
-module _ (T : List Entry) (e : Entry) (d : Dir) (event : EventValue) (dir_is : e.dir ≡ d) (is : event ≡ verdict MESSAGE_LIMIT T e) where
-  -- the verdict of the frame
-  verdict_is : event.verdict ≡ (verdict MESSAGE_LIMIT T e).verdict
-  verdict_is = ap (λ (x : EventValue). x.verdict) is
+module _ (rules : List RuleValue) (T : List Entry) (e : Entry) where
+  -- a frame of whose message rules left one: what is known with that is known of the trace
+  pub met_next : (judged : Judged) (here was : ℕ) (follower : Follower) → CompletesJudged rules T e judged
+      → here ≡ e.micros → was ≡ asked_in MESSAGE_LIMIT rules T
+      → KnowsMessages (messages_under rules MESSAGE_LIMIT T ++ sent judged ∷ [])
+      (if is_request_step (step_after (messages_under rules MESSAGE_LIMIT T) (sent judged)) then here else was) follower
+      → KnowsMessages (messages_under rules MESSAGE_LIMIT (T ++ e ∷ [])) (asked_in MESSAGE_LIMIT rules (T ++ e ∷ [])) follower
+  met_next judged here was follower completes here_is was_is known =
+      let M = messages_under rules MESSAGE_LIMIT T in
+      let asks_then : completes_request MESSAGE_LIMIT rules T e ≡ is_request_step (step_after M (sent judged)) =
+      ap (completes_request_by MESSAGE_LIMIT rules T e) completes.did
+      ∙ ap (is_request_left MESSAGE_LIMIT rules T e) completes.made
+      ∙ ap (λ (side : Dir). is_request_step (step_after M (side, judged.bytes.now))) completes.dir in
+      let asked_then : asked_in MESSAGE_LIMIT rules (T ++ e ∷ []) ≡ (if is_request_step (step_after M (sent judged)) then here else was) =
+      asked_next MESSAGE_LIMIT rules T e ∙ (λ i. if asks_then i then sym here_is i else sym was_is i) in
+      subst (λ (l : List Message). KnowsMessages l (asked_in MESSAGE_LIMIT rules (T ++ e ∷ [])) follower) (sym completes.next)
+      (subst (λ n. KnowsMessages (M ++ sent judged ∷ []) n follower) (sym asked_then) known)
 
-  -- a frame that completes a message: what is known with that message is known of the trace
-  pub met_next : (bytes : List ℕ) (here was : ℕ) (follower : Follower) → event.verdict ≡ message bytes → here ≡ e.micros → was ≡ asked_in MESSAGE_LIMIT T
-      → KnowsMessages (messages MESSAGE_LIMIT T ++ (d, bytes) ∷ []) (if is_request_step (step_after (messages MESSAGE_LIMIT T) (d, bytes)) then here else was) follower
-      → KnowsMessages (messages MESSAGE_LIMIT (T ++ e ∷ [])) (asked_in MESSAGE_LIMIT (T ++ e ∷ [])) follower
-  met_next bytes here was follower completes here_is was_is known =
-      let M = messages MESSAGE_LIMIT T in
-      let told : (verdict MESSAGE_LIMIT T e).verdict ≡ message bytes = sym verdict_is ∙ completes in
-      let all : messages MESSAGE_LIMIT (T ++ e ∷ []) ≡ M ++ (d, bytes) ∷ [] =
-      messages_next T e d event dir_is is ∙ ap (λ v. M ++ told_message d v) completes in
-      let asks_then : completes_request MESSAGE_LIMIT T e ≡ is_request_step (step_after M (d, bytes)) =
-      ap (λ v. completes_request_by MESSAGE_LIMIT T e v) told ∙ ap (λ (side : Dir). is_request_step (step_after M (side, bytes))) dir_is in
-      let asked_then : asked_in MESSAGE_LIMIT (T ++ e ∷ []) ≡ (if is_request_step (step_after M (d, bytes)) then here else was) =
-      asked_next MESSAGE_LIMIT T e ∙ (λ i. if asks_then i then sym here_is i else sym was_is i) in
-      subst (λ (l : List Message). KnowsMessages l (asked_in MESSAGE_LIMIT (T ++ e ∷ [])) follower) (sym all)
-      (subst (λ n. KnowsMessages (M ++ (d, bytes) ∷ []) n follower) (sym asked_then) known)
+  -- a frame of which rules leave no message completes no request
+  none_left_asks : (d : Dir) (made : Option (List ℕ)) → sent_as d made ++ [] ≡ [] → is_request_left MESSAGE_LIMIT rules T e made ≡ false
+  none_left_asks d None none = refl
+  none_left_asks d (Some bytes) none = cc none
 
-  -- a frame that completes none
-  pub met_still : (follower : Follower) → told_message d event.verdict ≡ [] → completes_request_by MESSAGE_LIMIT T e event.verdict ≡ false
-      → KnowsMessages (messages MESSAGE_LIMIT T) (asked_in MESSAGE_LIMIT T) follower
-      → KnowsMessages (messages MESSAGE_LIMIT (T ++ e ∷ [])) (asked_in MESSAGE_LIMIT (T ++ e ∷ [])) follower
-  met_still follower none no_request known =
-      let M = messages MESSAGE_LIMIT T in
-      let all : messages MESSAGE_LIMIT (T ++ e ∷ []) ≡ M = messages_next T e d event dir_is is ∙ ap (λ l. M ++ l) none ∙ append-nil M in
-      let asks_not : completes_request MESSAGE_LIMIT T e ≡ false = ap (λ v. completes_request_by MESSAGE_LIMIT T e v) (sym verdict_is) ∙ no_request in
-      let asked_then : asked_in MESSAGE_LIMIT (T ++ e ∷ []) ≡ asked_in MESSAGE_LIMIT T =
-      asked_next MESSAGE_LIMIT T e ∙ ap (λ (b : Bool). if b then e.micros else asked_in MESSAGE_LIMIT T) asks_not in
-      subst (λ (l : List Message). KnowsMessages l (asked_in MESSAGE_LIMIT (T ++ e ∷ [])) follower) (sym all)
-      (subst (λ n. KnowsMessages M n follower) (sym asked_then) known)
+  asks_none : (d : Dir) (did : VerdictValue) → under rules (told_message d did) ≡ []
+      → completes_request_by MESSAGE_LIMIT rules T e did ≡ false
+  asks_none d (message bytes) none = none_left_asks d (made_of rules bytes) none
+  asks_none d began none = refl
+  asks_none d stored none = refl
+  asks_none d flowed none = refl
+  asks_none d (dropped reason) none = refl
 
--- a frame that completes no message completes no request, and has no row but that of its drop
-asks_none : (T : List Entry) (e : Entry) (d : Dir) (did : VerdictValue) → told_message d did ≡ [] → completes_request_by MESSAGE_LIMIT T e did ≡ false
-asks_none T e d (message bytes) none = cc none
-asks_none T e d began none = refl
-asks_none T e d stored none = refl
-asks_none T e d flowed none = refl
-asks_none T e d (dropped reason) none = refl
+  module _ (seen : Seen) (is : IsSeen rules T e seen) (none : seen.message ≡ None) where
+    -- so what is known stays so
+    pub met_none : (follower : Follower) → KnowsMessages (messages_under rules MESSAGE_LIMIT T) (asked_in MESSAGE_LIMIT rules T) follower
+        → KnowsMessages (messages_under rules MESSAGE_LIMIT (T ++ e ∷ [])) (asked_in MESSAGE_LIMIT rules (T ++ e ∷ [])) follower
+    met_none follower known =
+        let M = messages_under rules MESSAGE_LIMIT T in
+        let asks_not : completes_request MESSAGE_LIMIT rules T e ≡ false =
+        asks_none e.dir (verdict MESSAGE_LIMIT T e).verdict (tells_no_message rules T e seen is none) in
+        let asked_then : asked_in MESSAGE_LIMIT rules (T ++ e ∷ []) ≡ asked_in MESSAGE_LIMIT rules T =
+        asked_next MESSAGE_LIMIT rules T e ∙ ap (λ (b : Bool). if b then e.micros else asked_in MESSAGE_LIMIT rules T) asks_not in
+        subst (λ (l : List Message). KnowsMessages l (asked_in MESSAGE_LIMIT rules (T ++ e ∷ [])) follower)
+        (sym (completes_none rules T e seen is none))
+        (subst (λ n. KnowsMessages M n follower) (sym asked_then) known)
 
-pub met_none : (T : List Entry) (e : Entry) (seen : Seen) (follower : Follower) → IsSeen T e seen → seen.message ≡ None
-    → KnowsMessages (messages MESSAGE_LIMIT T) (asked_in MESSAGE_LIMIT T) follower
-    → KnowsMessages (messages MESSAGE_LIMIT (T ++ e ∷ [])) (asked_in MESSAGE_LIMIT (T ++ e ∷ [])) follower
-met_none T e seen follower is none known =
-    let told = tells_no_message T e seen is none in
-    met_still T e e.dir (verdict MESSAGE_LIMIT T e) refl refl follower told (asks_none T e e.dir (verdict MESSAGE_LIMIT T e).verdict told) known
+  -- and has no row but that of its drop
+  none_left : (d : Dir) (made : Option (List ℕ)) → sent_as d made ++ [] ≡ [] → [] ≡ left_rows MESSAGE_LIMIT rules T e made
+  none_left d None none = refl
+  none_left d (Some bytes) none = cc none
 
-rows_by : (T : List Entry) (e : Entry) (d : Dir) (here : FramePlace) (linked : Bool) (did : VerdictValue) → told_message e.dir did ≡ [] → here ≡ place_of e → e.dir ≡ d
-    → dropped_by here d linked did ≡ verdict_rows MESSAGE_LIMIT T e linked did
-rows_by T e d here linked (message bytes) none here_is dir_is = cc none
-rows_by T e d here linked began none here_is dir_is = refl
-rows_by T e d here linked stored none here_is dir_is = refl
-rows_by T e d here linked flowed none here_is dir_is = refl
-rows_by T e d here linked (dropped reason) none here_is dir_is = (λ i. row.dropped (here_is i) (sym dir_is i) linked reason ∷ [])
+  rows_by : (d : Dir) (here : FramePlace) (linked : Bool) (did : VerdictValue) → under rules (told_message e.dir did) ≡ []
+      → here ≡ place_of e → e.dir ≡ d → dropped_by here d linked did ≡ verdict_rows MESSAGE_LIMIT rules T e linked did
+  rows_by d here linked (message bytes) none here_is dir_is = none_left e.dir (made_of rules bytes) none
+  rows_by d here linked began none here_is dir_is = refl
+  rows_by d here linked stored none here_is dir_is = refl
+  rows_by d here linked flowed none here_is dir_is = refl
+  rows_by d here linked (dropped reason) none here_is dir_is = (λ i. row.dropped (here_is i) (sym dir_is i) linked reason ∷ [])
 
-pub rows_none : (T : List Entry) (e : Entry) (seen : Seen) (here : FramePlace) (ended drop : List RowValue) → IsSeen T e seen → seen.message ≡ None → here ≡ place_of e
-    → ended ≡ ended_rows e seen.event.ended → drop ≡ dropped_rows here seen.dir (seen_event seen.event) → (ended ++ []) ++ drop ≡ frame_rows MESSAGE_LIMIT T e
-rows_none T e seen here ended drop is none here_is ended_is drop_is =
-    let did = is.event.did in
-    let told : told_message e.dir (seen_event seen.event).verdict ≡ [] = ap (λ (x : EventValue). told_message e.dir x.verdict) did ∙ tells_no_message T e seen is none in
-    ap (λ l. l ++ drop) (append-nil ended)
-    ∙ (λ i. ended_is i ++ (drop_is ∙ rows_by T e seen.dir here (ends_nothing seen.event.ended) (seen_event seen.event).verdict told here_is is.event.dir) i)
-    ∙ ap (λ x. event_rows MESSAGE_LIMIT T e x) did
+  pub rows_none : (seen : Seen) (here : FramePlace) (ended drop : List RowValue) → IsSeen rules T e seen → seen.message ≡ None
+      → here ≡ place_of e → ended ≡ ended_rows e seen.event.ended → drop ≡ dropped_rows here seen.dir (seen_event seen.event)
+      → (ended ++ []) ++ drop ≡ frame_rows MESSAGE_LIMIT rules T e
+  rows_none seen here ended drop is none here_is ended_is drop_is =
+      let did = is.event.did in
+      let told : under rules (told_message e.dir (seen_event seen.event).verdict) ≡ [] =
+      ap (λ (x : EventValue). under rules (told_message e.dir x.verdict)) did ∙ tells_no_message rules T e seen is none in
+      ap (λ l. l ++ drop) (append-nil ended)
+      ∙ (λ i. ended_is i
+      ++ (drop_is ∙ rows_by seen.dir here (ends_nothing seen.event.ended) (seen_event seen.event).verdict told here_is is.event.dir) i)
+      ∙ ap (λ x. event_rows MESSAGE_LIMIT rules T e x) did
 
 -- the rows of what a frame ended, then of the item that its message closes, and then of the message
 pub rows_of_message : (ended closing : List RowValue) (row : RowValue) → (ended ++ closing) ++ row ∷ [] ≡ ended ++ (closing ++ row ∷ [])
 rows_of_message ended closing row = append_assoc ended closing (row ∷ [])
 
--- so they are the rows of the event
-pub message_event : (T : List Entry) (e : Entry) (d : Dir) (event : EventValue) (bytes : List ℕ) (asked : ℕ) (here : FramePlace) (extent : MessageExtent)
-    → e.dir ≡ d → event ≡ verdict MESSAGE_LIMIT T e → event.verdict ≡ message bytes → asked ≡ asked_in MESSAGE_LIMIT T → here ≡ place_of e
+-- so they are the rows of the frame
+pub message_event : (rules : List RuleValue) (T : List Entry) (e : Entry) (event : EventValue) (judged : Judged) (asked : ℕ)
+    (here : FramePlace) (extent : MessageExtent) → event ≡ verdict MESSAGE_LIMIT T e → CompletesJudged rules T e judged
+    → asked ≡ asked_in MESSAGE_LIMIT rules T → here ≡ place_of e
     → extent.first ≡ place_of (first_frame T e) → extent.frames ≡ frames_by (stands MESSAGE_LIMIT e.dir T) (role e.dir e)
     → ended_rows e event.ended
-    ++ (closing_before (messages MESSAGE_LIMIT T) (step_after (messages MESSAGE_LIMIT T) (d, bytes))
-    ++ tells_message (role_of_step asked (step_after (messages MESSAGE_LIMIT T) (d, bytes)) d bytes) d
-    (record { item = number_after (messages MESSAGE_LIMIT T) (d, bytes); first = extent.first; last = here; frames = extent.frames }) bytes ∷ [])
-    ≡ frame_rows MESSAGE_LIMIT T e
-message_event T e d event bytes asked here extent dir_is is told asked_is here_is first_is frames_is =
-    let M = messages MESSAGE_LIMIT T in
-    (λ i. ended_rows e (is i).ended
+    ++ (closing_before (messages_under rules MESSAGE_LIMIT T) (step_after (messages_under rules MESSAGE_LIMIT T) (sent judged))
+    ++ tells_message (role_of_step asked (step_after (messages_under rules MESSAGE_LIMIT T) (sent judged)) judged.dir judged.bytes.now)
+    judged.dir (record {
+      item = number_after (messages_under rules MESSAGE_LIMIT T) (sent judged);
+      first = extent.first;
+      last = here;
+      frames = extent.frames;
+    }) judged.bytes.now ∷ [])
+    ≡ frame_rows MESSAGE_LIMIT rules T e
+message_event rules T e event judged asked here extent event_is completes asked_is here_is first_is frames_is =
+    let M = messages_under rules MESSAGE_LIMIT T in
+    let bytes = judged.bytes.now in
+    let dir_is = completes.dir in
+    let ended = (verdict MESSAGE_LIMIT T e).ended in
+    (λ i. ended_rows e (event_is i).ended
     ++ (closing_before M (step_after M (sym dir_is i, bytes))
     ++ tells_message (role_of_step (asked_is i) (step_after M (sym dir_is i, bytes)) (sym dir_is i) bytes) (sym dir_is i)
     (record { item = number_after M (sym dir_is i, bytes); first = first_is i; last = here_is i; frames = frames_is i }) bytes ∷ []))
-    ∙ ap (λ v. ended_rows e (verdict MESSAGE_LIMIT T e).ended ++ verdict_rows MESSAGE_LIMIT T e (ends_nothing (verdict MESSAGE_LIMIT T e).ended) v)
-    (sym (sym (ap (λ (x : EventValue). x.verdict) is) ∙ told))
+    ∙ ap (λ made. ended_rows e ended ++ left_rows MESSAGE_LIMIT rules T e made) (sym completes.made)
+    ∙ ap (λ v. ended_rows e ended ++ verdict_rows MESSAGE_LIMIT rules T e (ends_nothing ended) v) (sym completes.did)

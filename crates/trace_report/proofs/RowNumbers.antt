@@ -11,7 +11,7 @@ use Rattle.isotp_receive.specs.declared.TheConstants.{MESSAGE_LIMIT}
 use Rattle.isotp_receive.specs.declared.event.Ended.{Ended}
 use Rattle.isotp_receive.specs.StandingReception.{StandingReception, receptions_after}
 use Rattle.isotp_receive.specs.Trace.{Entry}
-use Rattle.isotp_receive.specs.Verdict.{VerdictValue, message, began, stored, flowed, dropped, messages, told_message, verdict}
+use Rattle.isotp_receive.specs.Verdict.{VerdictValue, message, began, stored, flowed, dropped, told_message, verdict}
 use Rattle.uds_exchange.proofs.Promises.{at_front, begun_stays, decided_grows, decided_then_undecided, item_stays, items_become, meaning_goes_on, number_is_its_place, open_exchange_stands, open_number_is_its_place}
 use Rattle.uds_exchange.specs.Decided.{decided, decided_in, undecided}
 use Rattle.uds_exchange.specs.Judging.{step_after}
@@ -23,8 +23,11 @@ use Rattle.uds_exchange.specs.proving.Becoming.{Becomes}
 use Rattle.uds_exchange.specs.declared.step.Step.{Step}
 use Rattle.uds_exchange.specs.declared.step.Step.TheVariants as becomes
 use Rattle.uds_message.specs.Message.{is_final_for, is_keep_alive, is_negative_response, is_pending_for, sid}
+use Rattle.trace_log.specs.Messages.{messages_under}
 use Rattle.trace_run.proofs.Promises.{messages_next}
-use Rattle.trace_report.specs.Events.{asked_in, closing_before, closing_rows, end_rows, ended_rows, ends_nothing, is_request_step, message_rows, rows_of, standing_row, verdict_rows, waiting_row}
+use Rattle.uds_rules.specs.Rule.{RuleValue, made_of}
+use Rattle.uds_rules.specs.Under.{sent_as, under}
+use Rattle.trace_report.specs.Events.{asked_in, closing_before, closing_rows, end_rows, ended_rows, ends_nothing, is_request_step, left_rows, message_rows, rows_of, standing_row, verdict_rows, waiting_row}
 use Rattle.trace_report.specs.Roles.{role_of_step}
 use Rattle.trace_report.specs.Numbers.{HasPart, IsUnanswered, RowNumbersArePlaces, TellsItsItem}
 use Rattle.trace_report.specs.Rows.{RowValue}
@@ -131,20 +134,25 @@ module _ (M : List Message) (x : Message) where
 
 -- One more frame.
 
-module _ (T : List Entry) (e : Entry) where
+module _ (rules : List RuleValue) (T : List Entry) (e : Entry) where
   abbrev M : List Message
-  M = messages MESSAGE_LIMIT T
+  M = messages_under rules MESSAGE_LIMIT T
 
-  sent-tells : (bytes : List ℕ) → AllByRecursion (Tells (M ++ (e.dir, bytes) ∷ [])) (message_rows MESSAGE_LIMIT T e bytes (step_after M (e.dir, bytes)))
+  sent-tells : (bytes : List ℕ) → AllByRecursion (Tells (M ++ (e.dir, bytes) ∷ [])) (message_rows MESSAGE_LIMIT rules T e bytes (step_after M (e.dir, bytes)))
   sent-tells bytes =
       let x : Message = (e.dir, bytes) in
       let step = step_after M x in
       let has = number_is_its_place M x in
       AllByRecursion-append (Tells (M ++ x ∷ [])) (closing_before M step) _ (before-tells M x step refl)
-      ((has.0, has.1, has.2, has.3, part-by (asked_in MESSAGE_LIMIT T) step e.dir bytes has.1 has.4), tt)
+      ((has.0, has.1, has.2, has.3, part-by (asked_in MESSAGE_LIMIT rules T) step e.dir bytes has.1 has.4), tt)
 
-  verdict-tells : (linked : Bool) (did : VerdictValue) → AllByRecursion (Tells (M ++ told_message e.dir did)) (verdict_rows MESSAGE_LIMIT T e linked did)
-  verdict-tells linked (message bytes) = sent-tells bytes
+  left-tells : (made : Option (List ℕ))
+      → AllByRecursion (Tells (M ++ (sent_as e.dir made ++ []))) (left_rows MESSAGE_LIMIT rules T e made)
+  left-tells None = tt
+  left-tells (Some bytes) = sent-tells bytes
+
+  verdict-tells : (linked : Bool) (did : VerdictValue) → AllByRecursion (Tells (M ++ under rules (told_message e.dir did))) (verdict_rows MESSAGE_LIMIT rules T e linked did)
+  verdict-tells linked (message bytes) = left-tells (made_of rules bytes)
   verdict-tells linked began = tt
   verdict-tells linked stored = tt
   verdict-tells linked flowed = tt
@@ -154,32 +162,40 @@ module _ (T : List Entry) (e : Entry) where
   ended-tells M None = tt
   ended-tells M (Some end) = (tt, tt)
 
-  rows-still : (rows : List RowValue) (did : VerdictValue) → AllByRecursion (Tells M) rows → AllByRecursion (Tells (M ++ told_message e.dir did)) rows
-  rows-still rows (message bytes) tell = AllByRecursion-weaker (Tells M) (Tells (M ++ (e.dir, bytes) ∷ [])) (row-still M (e.dir, bytes)) rows tell
+  rows-left : (rows : List RowValue) (made : Option (List ℕ)) → AllByRecursion (Tells M) rows
+      → AllByRecursion (Tells (M ++ (sent_as e.dir made ++ []))) rows
+  rows-left rows None tell = subst (λ l. AllByRecursion (Tells l) rows) (sym (append-nil M)) tell
+  rows-left rows (Some bytes) tell =
+      AllByRecursion-weaker (Tells M) (Tells (M ++ (e.dir, bytes) ∷ [])) (row-still M (e.dir, bytes)) rows tell
+
+  rows-still : (rows : List RowValue) (did : VerdictValue) → AllByRecursion (Tells M) rows → AllByRecursion (Tells (M ++ under rules (told_message e.dir did))) rows
+  rows-still rows (message bytes) tell = rows-left rows (made_of rules bytes) tell
   rows-still rows began tell = subst (λ l. AllByRecursion (Tells l) rows) (sym (append-nil M)) tell
   rows-still rows stored tell = subst (λ l. AllByRecursion (Tells l) rows) (sym (append-nil M)) tell
   rows-still rows flowed tell = subst (λ l. AllByRecursion (Tells l) rows) (sym (append-nil M)) tell
   rows-still rows (dropped reason) tell = subst (λ l. AllByRecursion (Tells l) rows) (sym (append-nil M)) tell
 
-  frame-tells : AllByRecursion (Tells M) (rows_of MESSAGE_LIMIT T) → AllByRecursion (Tells (messages MESSAGE_LIMIT (T ++ e ∷ []))) (rows_of MESSAGE_LIMIT (T ++ e ∷ []))
+  frame-tells : AllByRecursion (Tells M) (rows_of MESSAGE_LIMIT rules T) → AllByRecursion (Tells (messages_under rules MESSAGE_LIMIT (T ++ e ∷ []))) (rows_of MESSAGE_LIMIT rules (T ++ e ∷ []))
   frame-tells tell =
       let event = verdict MESSAGE_LIMIT T e in
-      let then = M ++ told_message e.dir event.verdict in
+      let then = M ++ under rules (told_message e.dir event.verdict) in
       let ended = ended_rows e event.ended in
-      let did = verdict_rows MESSAGE_LIMIT T e (ends_nothing event.ended) event.verdict in
+      let did = verdict_rows MESSAGE_LIMIT rules T e (ends_nothing event.ended) event.verdict in
       let new = AllByRecursion-append (Tells then) ended did (ended-tells then event.ended) (verdict-tells (ends_nothing event.ended) event.verdict) in
-      let all = AllByRecursion-append (Tells then) (rows_of MESSAGE_LIMIT T) (ended ++ did) (rows-still (rows_of MESSAGE_LIMIT T) event.verdict tell) new in
-      subst (λ l. AllByRecursion (Tells l) (rows_of MESSAGE_LIMIT (T ++ e ∷ []))) (sym (messages_next T e e.dir event refl refl))
-      (subst (AllByRecursion (Tells then)) (sym (rows_next MESSAGE_LIMIT T e)) all)
+      let all = AllByRecursion-append (Tells then) (rows_of MESSAGE_LIMIT rules T) (ended ++ did) (rows-still (rows_of MESSAGE_LIMIT rules T) event.verdict tell) new in
+      subst (λ l. AllByRecursion (Tells l) (rows_of MESSAGE_LIMIT rules (T ++ e ∷ []))) (sym (messages_next rules T e e.dir event refl refl))
+      (subst (AllByRecursion (Tells then)) (sym (rows_next MESSAGE_LIMIT rules T e)) all)
 
 -- All frames, and the end.
 
-abbrev EachTells : List Entry → Type 0
-EachTells T = AllByRecursion (Tells (messages MESSAGE_LIMIT T)) (rows_of MESSAGE_LIMIT T)
+abbrev EachTells : List RuleValue → List Entry → Type 0
+EachTells rules T = AllByRecursion (Tells (messages_under rules MESSAGE_LIMIT T)) (rows_of MESSAGE_LIMIT rules T)
 
-each-tells : (past T : List Entry) → EachTells past → EachTells (past ++ T)
-each-tells past [] tell = subst EachTells (sym (append-nil past)) tell
-each-tells past (e ∷ rest) tell = subst EachTells (append_assoc past (e ∷ []) rest) (each-tells (past ++ e ∷ []) rest (frame-tells past e tell))
+each-tells : (rules : List RuleValue) (past T : List Entry) → EachTells rules past → EachTells rules (past ++ T)
+each-tells rules past [] tell = subst (EachTells rules) (sym (append-nil past)) tell
+each-tells rules past (e ∷ rest) tell =
+    subst (EachTells rules) (append_assoc past (e ∷ []) rest)
+    (each-tells rules (past ++ e ∷ []) rest (frame-tells rules past e tell))
 
 row-tells : (M : List Message) (one : RowValue) → Tells M one → TellsItsItem (meaning M) one
 row-tells M (row.message is d place bytes) tells = tells
@@ -198,9 +214,9 @@ closing-tells M None waits_is = tt
 closing-tells M (Some request) waits_is =
     ((length (decided M), exchange request None, open_number_is_its_place M request waits_is, open_exchange_stands M request waits_is, (request, refl, refl)), tt)
 
-end-tells : (T : List Entry) → AllByRecursion (TellsItsItem (meaning (messages MESSAGE_LIMIT T))) (end_rows MESSAGE_LIMIT T)
-end-tells T =
-    let M = messages MESSAGE_LIMIT T in
+end-tells : (rules : List RuleValue) (T : List Entry) → AllByRecursion (TellsItsItem (meaning (messages_under rules MESSAGE_LIMIT T))) (end_rows MESSAGE_LIMIT rules T)
+end-tells rules T =
+    let M = messages_under rules MESSAGE_LIMIT T in
     let Tells-it = TellsItsItem (meaning M) in
     let stand = receptions_after MESSAGE_LIMIT T in
     let one = standing_row dir.Tester stand.tester in
@@ -210,8 +226,8 @@ end-tells T =
     (closing-tells M (open_request M) refl)
 
 pub row_numbers_are_places : RowNumbersArePlaces
-row_numbers_are_places T =
-    let M = messages MESSAGE_LIMIT T in
-    AllByRecursion-append (TellsItsItem (meaning M)) (rows_of MESSAGE_LIMIT T) (end_rows MESSAGE_LIMIT T)
-    (AllByRecursion-weaker (Tells M) (TellsItsItem (meaning M)) (row-tells M) (rows_of MESSAGE_LIMIT T) (each-tells [] T tt))
-    (end-tells T)
+row_numbers_are_places rules T =
+    let M = messages_under rules MESSAGE_LIMIT T in
+    AllByRecursion-append (TellsItsItem (meaning M)) (rows_of MESSAGE_LIMIT rules T) (end_rows MESSAGE_LIMIT rules T)
+    (AllByRecursion-weaker (Tells M) (TellsItsItem (meaning M)) (row-tells M) (rows_of MESSAGE_LIMIT rules T) (each-tells rules [] T tt))
+    (end-tells rules T)

@@ -8,7 +8,8 @@ use Rattle.isotp_receive.specs.declared.TheConstants.{MESSAGE_LIMIT}
 use Rattle.isotp_receive.specs.declared.event.Ended.{Ended}
 use Rattle.isotp_receive.specs.StandingReception.{StandingReception, receptions_after}
 use Rattle.isotp_receive.specs.Trace.{Entry}
-use Rattle.isotp_receive.specs.Verdict.{VerdictValue, message, began, stored, flowed, dropped, messages, told_message, verdict}
+use Rattle.isotp_receive.specs.Verdict.{VerdictValue, message, began, stored, flowed, dropped, told_message, verdict}
+use Rattle.trace_log.specs.Messages.{messages_under}
 use Rattle.trace_run.proofs.Promises.{messages_next}
 use Rattle.trace_canon.specs.FirstFrames.{place_of}
 use Rattle.uds_exchange.proofs.Promises.{held_are_fewer, items_grow}
@@ -20,7 +21,9 @@ use Rattle.uds_exchange.specs.Order.{open_request}
 use Rattle.uds_exchange.specs.declared.step.Step.{Step}
 use Rattle.uds_exchange.specs.declared.step.Step.TheVariants as becomes
 use Rattle.uds_message.specs.Message.{is_keep_alive, is_negative_response, is_suppressing, sid}
-use Rattle.trace_report.specs.Events.{asked_in, closing_before, closing_rows, ended_rows, ends_nothing, message_place, rows_of, standing_row, verdict_rows, waiting_row}
+use Rattle.uds_rules.specs.Rule.{RuleValue, made_of}
+use Rattle.uds_rules.specs.Under.{sent_as, under}
+use Rattle.trace_report.specs.Events.{asked_in, closing_before, closing_rows, ended_rows, ends_nothing, left_rows, message_place, rows_of, standing_row, verdict_rows, waiting_row}
 use Rattle.trace_report.specs.Roles.{other_role, role_of_step}
 use Rattle.trace_report.specs.Linked.{IsAmong, target_at, targets_in}
 use Rattle.trace_report.specs.Page.{all_rows}
@@ -58,16 +61,16 @@ waiting-placed M lines sides rows are = by (open_request M) (waiting-leads M lin
 
 -- The rows of a message.
 
-module _ (T : List Entry) (e : Entry) where
+module _ (rules : List RuleValue) (T : List Entry) (e : Entry) where
   abbrev M : List Message
-  M = messages MESSAGE_LIMIT T
+  M = messages_under rules MESSAGE_LIMIT T
 
   abbrev count : ℕ
   count = length (meaning M)
 
   -- the row of a message, by what becomes of it
   abbrev sent : List ℕ → Step → RowValue
-  sent bytes step = row.message (role_of_step (asked_in MESSAGE_LIMIT T) step e.dir bytes) e.dir (message_place MESSAGE_LIMIT T e bytes) bytes
+  sent bytes step = row.message (role_of_step (asked_in MESSAGE_LIMIT rules T) step e.dir bytes) e.dir (message_place MESSAGE_LIMIT rules T e bytes) bytes
 
   -- an answer is one to a request that waits
   answers-one : (waits : Option (List ℕ)) (x : Message) → step_of (option_map sid waits) x ≡ becomes.Answer → (request : List ℕ) × (waits ≡ Some request)
@@ -97,13 +100,13 @@ module _ (T : List Entry) (e : Entry) where
       (leads (targets_in rows ++ of_item (count + 1) ∷ [])
       (subst (λ n. IsAmong (of_item n) (targets_in rows ++ of_item (count + 1) ∷ [])) (sym next) (among-last (of_item (count + 1)) (targets_in rows))))
 
-  other-target : (bytes : List ℕ) (step : Step) (d : Dir) → role_of_step (asked_in MESSAGE_LIMIT T) step e.dir bytes ≡ other_role d bytes
+  other-target : (bytes : List ℕ) (step : Step) (d : Dir) → role_of_step (asked_in MESSAGE_LIMIT rules T) step e.dir bytes ≡ other_role d bytes
       → target_at (sent bytes step) ≡ Some (of_item (number_after M (e.dir, bytes)))
   other-target bytes step dir.Unit is = rw is refl
   other-target bytes step dir.Tester is =
       elim (cases_Bool (is_keep_alive bytes)) [ inl e ↦ rw (is, e) refl | inr e ↦ rw (is, e) refl ]
 
-  other-leads : (bytes : List ℕ) (step : Step) (d : Dir) → role_of_step (asked_in MESSAGE_LIMIT T) step e.dir bytes ≡ other_role d bytes
+  other-leads : (bytes : List ℕ) (step : Step) (d : Dir) → role_of_step (asked_in MESSAGE_LIMIT rules T) step e.dir bytes ≡ other_role d bytes
       → (places : List LinkTarget) → IsAmong (of_item (number_after M (e.dir, bytes))) places → Leads places (sent bytes step)
   other-leads bytes step dir.Unit is places among = rw is among
   other-leads bytes step dir.Tester is places among =
@@ -128,22 +131,27 @@ module _ (T : List Entry) (e : Entry) where
 
   -- all messages with those of this frame
   abbrev count_with : VerdictValue → ℕ
-  count_with did = length (meaning (M ++ told_message e.dir did))
+  count_with did = length (meaning (M ++ under rules (told_message e.dir did)))
 
   count-still : (did : VerdictValue) → told_message e.dir did ≡ [] → count ≡ count_with did
-  count-still did none = ap (λ l. length (meaning l)) (sym (append-nil M) ∙ ap (λ l. M ++ l) (sym none))
+  count-still did none = ap (λ l. length (meaning l)) (sym (append-nil M) ∙ ap (λ l. M ++ under rules l) (sym none))
 
-  placed-message : (lines sides : ℕ) (rows : List RowValue) (bytes : List ℕ) → ArePlaced count lines sides rows
-      → ArePlaced (count_with (message bytes)) lines sides (rows ++ verdict_rows MESSAGE_LIMIT T e false (message bytes))
-  placed-message lines sides rows bytes are =
+  -- the rows of what rules left of its message
+  placed-left : (lines sides : ℕ) (rows : List RowValue) (made : Option (List ℕ)) → ArePlaced count lines sides rows
+      → ArePlaced (length (meaning (M ++ (sent_as e.dir made ++ [])))) lines sides (rows ++ left_rows MESSAGE_LIMIT rules T e made)
+  placed-left lines sides rows None are =
+      subst (λ l. ArePlaced (length (meaning l)) lines sides (rows ++ [])) (sym (append-nil M))
+      (subst (ArePlaced count lines sides) (sym (append-nil rows)) are)
+  placed-left lines sides rows (Some bytes) are =
       let step = step_after M (e.dir, bytes) in
       subst (λ n. ArePlaced n lines sides (rows ++ (closing_before M step ++ sent bytes step ∷ []))) (sym (items_grow M (e.dir, bytes)))
-      (subst (ArePlaced (item_count_after_step step count) lines sides) (append_assoc rows (closing_before M step) (sent bytes step ∷ [])) (placed-step lines sides rows bytes step refl are))
+      (subst (ArePlaced (item_count_after_step step count) lines sides) (append_assoc rows (closing_before M step) (sent bytes step ∷ []))
+      (placed-step lines sides rows bytes step refl are))
 
   -- what it does, behind what it ended
   placed-unlinked : (rows : List RowValue) (did : VerdictValue) → ArePlaced count (e.line + 1) 0 rows → IsAmong (of_line e.line) (targets_in rows)
-      → ArePlaced (count_with did) (e.line + 1) 0 (rows ++ verdict_rows MESSAGE_LIMIT T e false did)
-  placed-unlinked rows (message bytes) are among = placed-message (e.line + 1) 0 rows bytes are
+      → ArePlaced (count_with did) (e.line + 1) 0 (rows ++ verdict_rows MESSAGE_LIMIT rules T e false did)
+  placed-unlinked rows (message bytes) are among = placed-left (e.line + 1) 0 rows (made_of rules bytes) are
   placed-unlinked rows began are among = subst (λ n. ArePlaced n (e.line + 1) 0 (rows ++ [])) (count-still began refl) (subst (ArePlaced count (e.line + 1) 0) (sym (append-nil rows)) are)
   placed-unlinked rows stored are among = subst (λ n. ArePlaced n (e.line + 1) 0 (rows ++ [])) (count-still stored refl) (subst (ArePlaced count (e.line + 1) 0) (sym (append-nil rows)) are)
   placed-unlinked rows flowed are among = subst (λ n. ArePlaced n (e.line + 1) 0 (rows ++ [])) (count-still flowed refl) (subst (ArePlaced count (e.line + 1) 0) (sym (append-nil rows)) are)
@@ -153,7 +161,7 @@ module _ (T : List Entry) (e : Entry) where
 
   -- and where it ended nothing
   placed-linked : (lines : ℕ) (rows : List RowValue) (did : VerdictValue) → ArePlaced count lines 0 rows → lines ≤ e.line
-      → ArePlaced (count_with did) (e.line + 1) 0 (rows ++ verdict_rows MESSAGE_LIMIT T e true did)
+      → ArePlaced (count_with did) (e.line + 1) 0 (rows ++ verdict_rows MESSAGE_LIMIT rules T e true did)
   placed-linked lines rows did are late = by did
     where
       onward : ArePlaced count (e.line + 1) 0 rows
@@ -162,8 +170,8 @@ module _ (T : List Entry) (e : Entry) where
       still : ArePlaced count (e.line + 1) 0 (rows ++ [])
       still = subst (ArePlaced count (e.line + 1) 0) (sym (append-nil rows)) onward
 
-      by : (did : VerdictValue) → ArePlaced (count_with did) (e.line + 1) 0 (rows ++ verdict_rows MESSAGE_LIMIT T e true did)
-      by (message bytes) = placed-message (e.line + 1) 0 rows bytes onward
+      by : (did : VerdictValue) → ArePlaced (count_with did) (e.line + 1) 0 (rows ++ verdict_rows MESSAGE_LIMIT rules T e true did)
+      by (message bytes) = placed-left (e.line + 1) 0 rows (made_of rules bytes) onward
       by began = subst (λ n. ArePlaced n (e.line + 1) 0 (rows ++ [])) (count-still began refl) still
       by stored = subst (λ n. ArePlaced n (e.line + 1) 0 (rows ++ [])) (count-still stored refl) still
       by flowed = subst (λ n. ArePlaced n (e.line + 1) 0 (rows ++ [])) (count-still flowed refl) still
@@ -172,41 +180,44 @@ module _ (T : List Entry) (e : Entry) where
           (placed-line count lines 0 e.line rows (row.dropped (place_of e) e.dir true reason) are refl late (among-last (of_line e.line) (targets_in rows)))
 
   placed-event : (lines : ℕ) (rows : List RowValue) (ended : Option Ended) (did : VerdictValue) → ArePlaced count lines 0 rows → lines ≤ e.line
-      → ArePlaced (count_with did) (e.line + 1) 0 (rows ++ (ended_rows e ended ++ verdict_rows MESSAGE_LIMIT T e (ends_nothing ended) did))
+      → ArePlaced (count_with did) (e.line + 1) 0 (rows ++ (ended_rows e ended ++ verdict_rows MESSAGE_LIMIT rules T e (ends_nothing ended) did))
   placed-event lines rows None did are late = placed-linked lines rows did are late
   placed-event lines rows (Some end) did are late =
       let one = row.ended (place_of e) end in
       let places = targets_in rows in
-      subst (ArePlaced (count_with did) (e.line + 1) 0) (append_assoc rows (one ∷ []) (verdict_rows MESSAGE_LIMIT T e false did))
+      subst (ArePlaced (count_with did) (e.line + 1) 0) (append_assoc rows (one ∷ []) (verdict_rows MESSAGE_LIMIT rules T e false did))
       (placed-unlinked (rows ++ one ∷ []) did (placed-line count lines 0 e.line rows one are refl late (among-last (of_line e.line) places))
       (subst (IsAmong (of_line e.line)) (sym (new-places rows one (of_line e.line) refl)) (among-last (of_line e.line) places)))
 
   -- one more frame
-  placed-next : (lines : ℕ) → ArePlaced count lines 0 (rows_of MESSAGE_LIMIT T) → lines ≤ e.line
-      → ArePlaced (length (meaning (messages MESSAGE_LIMIT (T ++ e ∷ [])))) (e.line + 1) 0 (rows_of MESSAGE_LIMIT (T ++ e ∷ []))
+  placed-next : (lines : ℕ) → ArePlaced count lines 0 (rows_of MESSAGE_LIMIT rules T) → lines ≤ e.line
+      → ArePlaced (length (meaning (messages_under rules MESSAGE_LIMIT (T ++ e ∷ [])))) (e.line + 1) 0 (rows_of MESSAGE_LIMIT rules (T ++ e ∷ []))
   placed-next lines are late =
       let event = verdict MESSAGE_LIMIT T e in
-      subst (ArePlaced (length (meaning (messages MESSAGE_LIMIT (T ++ e ∷ [])))) (e.line + 1) 0) (sym (rows_next MESSAGE_LIMIT T e))
-      (subst (λ N. ArePlaced (length (meaning N)) (e.line + 1) 0 (rows_of MESSAGE_LIMIT T ++ (ended_rows e event.ended ++ verdict_rows MESSAGE_LIMIT T e (ends_nothing event.ended) event.verdict)))
-      (sym (messages_next T e e.dir event refl refl)) (placed-event lines (rows_of MESSAGE_LIMIT T) event.ended event.verdict are late))
+      subst (ArePlaced (length (meaning (messages_under rules MESSAGE_LIMIT (T ++ e ∷ [])))) (e.line + 1) 0) (sym (rows_next MESSAGE_LIMIT rules T e))
+      (subst (λ N. ArePlaced (length (meaning N)) (e.line + 1) 0 (rows_of MESSAGE_LIMIT rules T ++ (ended_rows e event.ended ++ verdict_rows MESSAGE_LIMIT rules T e (ends_nothing event.ended) event.verdict)))
+      (sym (messages_next rules T e e.dir event refl refl)) (placed-event lines (rows_of MESSAGE_LIMIT rules T) event.ended event.verdict are late))
 
 -- All frames.
 
-abbrev pub HasPlaces : List Entry → ℕ → Type 0
-HasPlaces T lines = ArePlaced (length (meaning (messages MESSAGE_LIMIT T))) lines 0 (rows_of MESSAGE_LIMIT T)
+abbrev pub HasPlaces : List RuleValue → List Entry → ℕ → Type 0
+HasPlaces rules T lines = ArePlaced (length (meaning (messages_under rules MESSAGE_LIMIT T))) lines 0 (rows_of MESSAGE_LIMIT rules T)
 
-placed-behind : (past T : List Entry) (low high : ℕ) → HasPlaces past low → Grow low high T → HasPlaces (past ++ T) high
-placed-behind past [] low high are grow =
-    subst (λ (l : List Entry). HasPlaces l high) (sym (append-nil past)) (placed-later (length (meaning (messages MESSAGE_LIMIT past))) low 0 high 0 (rows_of MESSAGE_LIMIT past) are grow (omega arith))
-placed-behind past (e ∷ rest) low high are grow =
-    subst (λ (l : List Entry). HasPlaces l high) (append_assoc past (e ∷ []) rest)
-    (placed-behind (past ++ e ∷ []) rest (e.line + 1) high (placed-next past e low are grow.0) grow.1)
+placed-behind : (rules : List RuleValue) (past T : List Entry) (low high : ℕ) → HasPlaces rules past low → Grow low high T
+    → HasPlaces rules (past ++ T) high
+placed-behind rules past [] low high are grow =
+    subst (λ (l : List Entry). HasPlaces rules l high) (sym (append-nil past))
+    (placed-later (length (meaning (messages_under rules MESSAGE_LIMIT past))) low 0 high 0 (rows_of MESSAGE_LIMIT rules past) are grow (omega arith))
+placed-behind rules past (e ∷ rest) low high are grow =
+    subst (λ (l : List Entry). HasPlaces rules l high) (append_assoc past (e ∷ []) rest)
+    (placed-behind rules (past ++ e ∷ []) rest (e.line + 1) high (placed-next rules past e low are grow.0) grow.1)
 
-no-places : HasPlaces [] 0
-no-places = record { within = tt; distinct = tt; each = λ number low high. absurd (let is = low in let most = high in omega (arith, is, most)); lead = tt }
+no-places : (rules : List RuleValue) → HasPlaces rules [] 0
+no-places rules = record { within = tt; distinct = tt; each = λ number low high. absurd (let is = low in let most = high in omega (arith, is, most)); lead = tt }
 
-pub rows-placed : (T : List Entry) (low high : ℕ) → Grow low high T → HasPlaces T high
-rows-placed T low high grow = placed-behind [] T low high (placed-later 0 0 0 low 0 [] no-places (omega arith) (omega arith)) grow
+pub rows-placed : (rules : List RuleValue) (T : List Entry) (low high : ℕ) → Grow low high T → HasPlaces rules T high
+rows-placed rules T low high grow =
+    placed-behind rules [] T low high (placed-later 0 0 0 low 0 [] (no-places rules) (omega arith) (omega arith)) grow
 
 -- And the end.
 
@@ -216,14 +227,15 @@ standing-placed items lines sides rows d None are late =
     subst (ArePlaced items lines (side_number d + 1)) (sym (append-nil rows)) (placed-later items lines sides lines (side_number d + 1) rows are (omega arith) (omega (arith, late)))
 standing-placed items lines sides rows d (Some begun) are late = placed-side items lines sides rows d begun.line begun.len are late
 
-pub all-placed : (T : List Entry) (lines : ℕ) → HasPlaces T lines → ArePlaced (length (meaning (messages MESSAGE_LIMIT T))) lines 2 (all_rows MESSAGE_LIMIT T)
-all-placed T lines are =
-    let items = length (meaning (messages MESSAGE_LIMIT T)) in
+pub all-placed : (rules : List RuleValue) (T : List Entry) (lines : ℕ) → HasPlaces rules T lines
+    → ArePlaced (length (meaning (messages_under rules MESSAGE_LIMIT T))) lines 2 (all_rows MESSAGE_LIMIT rules T)
+all-placed rules T lines are =
+    let items = length (meaning (messages_under rules MESSAGE_LIMIT T)) in
     let stand = receptions_after MESSAGE_LIMIT T in
-    let rows = rows_of MESSAGE_LIMIT T in
+    let rows = rows_of MESSAGE_LIMIT rules T in
     let one = standing_row dir.Tester stand.tester in
     let other = standing_row dir.Unit stand.unit in
-    let last = closing_rows (messages MESSAGE_LIMIT T) in
+    let last = closing_rows (messages_under rules MESSAGE_LIMIT T) in
     subst (ArePlaced items lines 2) (append_assoc (rows ++ one) other last ∙ append_assoc rows one (other ++ last) ∙ ap (λ l. rows ++ l) (sym (append_assoc one other last)))
-    (waiting-placed (messages MESSAGE_LIMIT T) lines 2 ((rows ++ one) ++ other)
+    (waiting-placed (messages_under rules MESSAGE_LIMIT T) lines 2 ((rows ++ one) ++ other)
     (standing-placed items lines 1 (rows ++ one) dir.Unit stand.unit (standing-placed items lines 0 rows dir.Tester stand.tester are (omega arith)) (omega arith)))

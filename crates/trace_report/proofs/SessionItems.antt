@@ -9,7 +9,8 @@ use Rattle.isotp_receive.specs.declared.TheConstants.{MESSAGE_LIMIT}
 use Rattle.isotp_receive.specs.declared.event.Ended.{Ended}
 use Rattle.isotp_receive.specs.StandingReception.{StandingReception, receptions_after}
 use Rattle.isotp_receive.specs.Trace.{Entry}
-use Rattle.isotp_receive.specs.Verdict.{VerdictValue, message, began, stored, flowed, dropped, messages, told_message, verdict}
+use Rattle.isotp_receive.specs.Verdict.{VerdictValue, message, began, stored, flowed, dropped, told_message, verdict}
+use Rattle.trace_log.specs.Messages.{messages_under}
 use Rattle.trace_run.proofs.Promises.{messages_next}
 use Rattle.uds_exchange.proofs.Promises.{meaning_goes_on, step_by_items}
 use Rattle.uds_exchange.specs.Meaning.{meaning}
@@ -20,7 +21,9 @@ use Rattle.uds_exchange.specs.declared.step.Step.{Step}
 use Rattle.uds_exchange.specs.declared.step.Step.TheVariants as becomes
 use Rattle.uds_exchange.specs.proving.OpenExchange.{open_sid_in}
 use Rattle.uds_exchange.specs.proving.Pairing.{items_with}
-use Rattle.trace_report.specs.Events.{asked_in, closing_before, closing_rows, end_rows, ended_rows, ends_nothing, message_place, rows_of, standing_row, verdict_rows, waiting_row}
+use Rattle.uds_rules.specs.Rule.{RuleValue, made_of}
+use Rattle.uds_rules.specs.Under.{sent_as, under}
+use Rattle.trace_report.specs.Events.{asked_in, closing_before, closing_rows, end_rows, ended_rows, ends_nothing, left_rows, message_place, rows_of, standing_row, verdict_rows, waiting_row}
 use Rattle.trace_report.specs.Roles.{role_of_step}
 use Rattle.trace_report.specs.Laws.{ItemsAreTheMeaning}
 use Rattle.trace_report.specs.Page.{all_rows}
@@ -75,9 +78,9 @@ standing-quiet d (Some begun) = tt
 
 -- One more frame.
 
-module _ (T : List Entry) (e : Entry) where
+module _ (rules : List RuleValue) (T : List Entry) (e : Entry) where
   abbrev M : List Message
-  M = messages MESSAGE_LIMIT T
+  M = messages_under rules MESSAGE_LIMIT T
 
   -- a message, behind rows that tell what the messages before mean
   with-message : (ks : List RowKind) (bytes : List ℕ) → values_of ks ≡ meaning M
@@ -88,63 +91,70 @@ module _ (T : List Entry) (e : Entry) where
       ∙ joined ks x ∙ ap (λ items. items_with items x) so ∙ sym (meaning_goes_on M x)
 
   with-message-rows : (ks : List RowKind) (bytes : List ℕ) (step : Step) → step ≡ step_after M (e.dir, bytes) → values_of ks ≡ meaning M
-      → values_of (ks ++ map kind (closing_before M step ++ row.message (role_of_step (asked_in MESSAGE_LIMIT T) step e.dir bytes) e.dir (message_place MESSAGE_LIMIT T e bytes) bytes ∷ []))
+      → values_of (ks ++ map kind (closing_before M step ++ row.message (role_of_step (asked_in MESSAGE_LIMIT rules T) step e.dir bytes) e.dir (message_place MESSAGE_LIMIT rules T e bytes) bytes ∷ []))
       ≡ meaning (M ++ (e.dir, bytes) ∷ [])
   with-message-rows ks bytes step is so =
-      let sent = row.message (role_of_step (asked_in MESSAGE_LIMIT T) step e.dir bytes) e.dir (message_place MESSAGE_LIMIT T e bytes) bytes in
+      let sent = row.message (role_of_step (asked_in MESSAGE_LIMIT rules T) step e.dir bytes) e.dir (message_place MESSAGE_LIMIT rules T e bytes) bytes in
       let before = map kind (closing_before M step) in
       ap (λ l. values_of (ks ++ l)) (map-append kind (closing_before M step) (sent ∷ []))
       ∙ ap values_of (sym (append_assoc ks before (kind sent ∷ [])))
-      ∙ ap (λ k. values_of ((ks ++ before) ++ k ∷ [])) (kind-of-message (asked_in MESSAGE_LIMIT T) step e.dir (message_place MESSAGE_LIMIT T e bytes) bytes
+      ∙ ap (λ k. values_of ((ks ++ before) ++ k ∷ [])) (kind-of-message (asked_in MESSAGE_LIMIT rules T) step e.dir (message_place MESSAGE_LIMIT rules T e bytes) bytes
       ∙ ap (λ s. kind_of_step s (e.dir, bytes)) is)
       ∙ with-message (ks ++ before) bytes (no-more ks before (before-quiet M step) ∙ so)
 
+  with-left : (ks : List RowKind) (made : Option (List ℕ)) → values_of ks ≡ meaning M
+      → values_of (ks ++ map kind (left_rows MESSAGE_LIMIT rules T e made)) ≡ meaning (M ++ (sent_as e.dir made ++ []))
+  with-left ks None so = ap values_of (append-nil ks) ∙ so ∙ ap meaning (sym (append-nil M))
+  with-left ks (Some bytes) so = with-message-rows ks bytes (step_after M (e.dir, bytes)) refl so
+
   with-verdict : (ks : List RowKind) (linked : Bool) (did : VerdictValue) → values_of ks ≡ meaning M
-      → values_of (ks ++ map kind (verdict_rows MESSAGE_LIMIT T e linked did)) ≡ meaning (M ++ told_message e.dir did)
-  with-verdict ks linked (message bytes) so = with-message-rows ks bytes (step_after M (e.dir, bytes)) refl so
+      → values_of (ks ++ map kind (verdict_rows MESSAGE_LIMIT rules T e linked did)) ≡ meaning (M ++ under rules (told_message e.dir did))
+  with-verdict ks linked (message bytes) so = with-left ks (made_of rules bytes) so
   with-verdict ks linked began so = ap values_of (append-nil ks) ∙ so ∙ ap meaning (sym (append-nil M))
   with-verdict ks linked stored so = ap values_of (append-nil ks) ∙ so ∙ ap meaning (sym (append-nil M))
   with-verdict ks linked flowed so = ap values_of (append-nil ks) ∙ so ∙ ap meaning (sym (append-nil M))
   with-verdict ks linked (dropped reason) so = no-more ks (nothing ∷ []) tt ∙ so ∙ ap meaning (sym (append-nil M))
 
-  pub one-more-frame : values_of (map kind (rows_of MESSAGE_LIMIT T)) ≡ meaning M
-      → values_of (map kind (rows_of MESSAGE_LIMIT (T ++ e ∷ []))) ≡ meaning (messages MESSAGE_LIMIT (T ++ e ∷ []))
+  pub one-more-frame : values_of (map kind (rows_of MESSAGE_LIMIT rules T)) ≡ meaning M
+      → values_of (map kind (rows_of MESSAGE_LIMIT rules (T ++ e ∷ []))) ≡ meaning (messages_under rules MESSAGE_LIMIT (T ++ e ∷ []))
   one-more-frame so =
       let event = verdict MESSAGE_LIMIT T e in
-      let ks = map kind (rows_of MESSAGE_LIMIT T) in
+      let ks = map kind (rows_of MESSAGE_LIMIT rules T) in
       let ended = ended_rows e event.ended in
-      let did = verdict_rows MESSAGE_LIMIT T e (ends_nothing event.ended) event.verdict in
-      ap (λ rows. values_of (map kind rows)) (rows_next MESSAGE_LIMIT T e)
-      ∙ ap values_of (map-append kind (rows_of MESSAGE_LIMIT T) (ended ++ did))
+      let did = verdict_rows MESSAGE_LIMIT rules T e (ends_nothing event.ended) event.verdict in
+      ap (λ rows. values_of (map kind rows)) (rows_next MESSAGE_LIMIT rules T e)
+      ∙ ap values_of (map-append kind (rows_of MESSAGE_LIMIT rules T) (ended ++ did))
       ∙ ap (λ l. values_of (ks ++ l)) (map-append kind ended did)
       ∙ ap values_of (sym (append_assoc ks (map kind ended) (map kind did)))
       ∙ with-verdict (ks ++ map kind ended) (ends_nothing event.ended) event.verdict (no-more ks (map kind ended) (ended-quiet e event.ended) ∙ so)
-      ∙ ap meaning (sym (messages_next T e e.dir event refl refl))
+      ∙ ap meaning (sym (messages_next rules T e e.dir event refl refl))
 
 -- All frames.
 
-abbrev MeansSo : List Entry → Type 0
-MeansSo T = values_of (map kind (rows_of MESSAGE_LIMIT T)) ≡ meaning (messages MESSAGE_LIMIT T)
+abbrev MeansSo : List RuleValue → List Entry → Type 0
+MeansSo rules T = values_of (map kind (rows_of MESSAGE_LIMIT rules T)) ≡ meaning (messages_under rules MESSAGE_LIMIT T)
 
-means-so-behind : (past T : List Entry) → MeansSo past → MeansSo (past ++ T)
-means-so-behind past [] so = subst MeansSo (sym (append-nil past)) so
-means-so-behind past (e ∷ rest) so = subst MeansSo (append_assoc past (e ∷ []) rest) (means-so-behind (past ++ e ∷ []) rest (one-more-frame past e so))
+means-so-behind : (rules : List RuleValue) (past T : List Entry) → MeansSo rules past → MeansSo rules (past ++ T)
+means-so-behind rules past [] so = subst (MeansSo rules) (sym (append-nil past)) so
+means-so-behind rules past (e ∷ rest) so =
+    subst (MeansSo rules) (append_assoc past (e ∷ []) rest)
+    (means-so-behind rules (past ++ e ∷ []) rest (one-more-frame rules past e so))
 
-end-quiet : (T : List Entry) (ks : List RowKind) → values_of (ks ++ map kind (end_rows MESSAGE_LIMIT T)) ≡ values_of ks
-end-quiet T ks =
+end-quiet : (rules : List RuleValue) (T : List Entry) (ks : List RowKind) → values_of (ks ++ map kind (end_rows MESSAGE_LIMIT rules T)) ≡ values_of ks
+end-quiet rules T ks =
     let stand = receptions_after MESSAGE_LIMIT T in
     let one = standing_row dir.Tester stand.tester in
     let other = standing_row dir.Unit stand.unit in
-    let last = closing_rows (messages MESSAGE_LIMIT T) in
+    let last = closing_rows (messages_under rules MESSAGE_LIMIT T) in
     ap (λ l. values_of (ks ++ l)) (map-append kind (one ++ other) last ∙ ap (λ l. l ++ map kind last) (map-append kind one other))
     ∙ ap values_of (sym (append_assoc ks (map kind one ++ map kind other) (map kind last)) ∙ ap (λ l. l ++ map kind last) (sym (append_assoc ks (map kind one) (map kind other))))
-    ∙ no-more ((ks ++ map kind one) ++ map kind other) (map kind last) (waiting-quiet (messages MESSAGE_LIMIT T) (open_request (messages MESSAGE_LIMIT T)))
+    ∙ no-more ((ks ++ map kind one) ++ map kind other) (map kind last) (waiting-quiet (messages_under rules MESSAGE_LIMIT T) (open_request (messages_under rules MESSAGE_LIMIT T)))
     ∙ no-more (ks ++ map kind one) (map kind other) (standing-quiet dir.Unit stand.unit)
     ∙ no-more ks (map kind one) (standing-quiet dir.Tester stand.tester)
 
 pub items_are_the_meaning : ItemsAreTheMeaning
-items_are_the_meaning T =
-    values-by-kinds (all_rows MESSAGE_LIMIT T)
-    ∙ ap values_of (map-append kind (rows_of MESSAGE_LIMIT T) (end_rows MESSAGE_LIMIT T))
-    ∙ end-quiet T (map kind (rows_of MESSAGE_LIMIT T))
-    ∙ means-so-behind [] T refl
+items_are_the_meaning rules T =
+    values-by-kinds (all_rows MESSAGE_LIMIT rules T)
+    ∙ ap values_of (map-append kind (rows_of MESSAGE_LIMIT rules T) (end_rows MESSAGE_LIMIT rules T))
+    ∙ end-quiet rules T (map kind (rows_of MESSAGE_LIMIT rules T))
+    ∙ means-so-behind rules [] T refl

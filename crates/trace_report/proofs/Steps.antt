@@ -5,44 +5,47 @@ use Rattle.std.specs.Prelude.{if◌then◌else◌}
 use Rattle.direction.specs.Dir.{Message}
 use Rattle.isotp_receive.specs.declared.event.Ended.{Ended}
 use Rattle.isotp_receive.specs.Trace.{Entry}
-use Rattle.isotp_receive.specs.Verdict.{VerdictValue, message, began, stored, flowed, dropped, messages, verdict}
+use Rattle.isotp_receive.specs.Verdict.{VerdictValue, message, began, stored, flowed, dropped, verdict}
 use Rattle.uds_exchange.specs.Judging.{step_after}
 use Rattle.uds_exchange.specs.Order.{open_request}
 use Rattle.uds_exchange.specs.declared.step.Step.{Step}
 use Rattle.uds_exchange.specs.declared.step.Step.TheVariants as becomes
-use Rattle.trace_report.specs.Events.{asked_behind, asked_in, closing_before, completes_request, ended_rows, frame_rows, ends_nothing, message_place, rows_behind, rows_of, verdict_rows, waiting_row}
+use Rattle.uds_rules.specs.Rule.{RuleValue, made_of}
+use Rattle.trace_log.specs.Messages.{messages_under}
+use Rattle.trace_report.specs.Events.{asked_behind, asked_in, closing_before, completes_request, ended_rows, frame_rows, ends_nothing, left_rows, message_place, rows_behind, rows_of, verdict_rows, waiting_row}
 use Rattle.trace_report.specs.Roles.{role_of_step}
 use Rattle.trace_report.specs.Page.{first_time, last_time}
 use Rattle.trace_report.specs.Rows as row
 use Rattle.trace_report.specs.proving.Following.{times_of}
 
-rows_more : (limit : ℕ) (past T : List Entry) (e : Entry) → rows_behind limit past (T ++ e ∷ []) ≡ rows_behind limit past T ++ frame_rows limit (past ++ T) e
-rows_more limit past [] e =
-    append-nil (frame_rows limit past e) ∙ ap (λ (before : List Entry). frame_rows limit before e) (sym (append-nil past))
-rows_more limit past (x ∷ T) e =
-    let front = frame_rows limit past x in
-    let between = rows_behind limit (past ++ x ∷ []) T in
-    ap (λ rest. front ++ rest) (rows_more limit (past ++ x ∷ []) T e)
-    ∙ ap (λ (before : List Entry). front ++ (between ++ frame_rows limit before e)) (append_assoc past (x ∷ []) T)
-    ∙ sym (append_assoc front between (frame_rows limit (past ++ x ∷ T) e))
+rows_more : (limit : ℕ) (rules : List RuleValue) (past T : List Entry) (e : Entry)
+    → rows_behind limit rules past (T ++ e ∷ []) ≡ rows_behind limit rules past T ++ frame_rows limit rules (past ++ T) e
+rows_more limit rules past [] e =
+    append-nil (frame_rows limit rules past e) ∙ ap (λ (before : List Entry). frame_rows limit rules before e) (sym (append-nil past))
+rows_more limit rules past (x ∷ T) e =
+    let front = frame_rows limit rules past x in
+    let between = rows_behind limit rules (past ++ x ∷ []) T in
+    ap (λ rest. front ++ rest) (rows_more limit rules (past ++ x ∷ []) T e)
+    ∙ ap (λ (before : List Entry). front ++ (between ++ frame_rows limit rules before e)) (append_assoc past (x ∷ []) T)
+    ∙ sym (append_assoc front between (frame_rows limit rules (past ++ x ∷ T) e))
 
 -- its rows
-pub rows_next : (limit : ℕ) (T : List Entry) (e : Entry) → rows_of limit (T ++ e ∷ []) ≡ rows_of limit T ++ frame_rows limit T e
-rows_next limit T e = rows_more limit [] T e
+pub rows_next : (limit : ℕ) (rules : List RuleValue) (T : List Entry) (e : Entry) → rows_of limit rules (T ++ e ∷ []) ≡ rows_of limit rules T ++ frame_rows limit rules T e
+rows_next limit rules T e = rows_more limit rules [] T e
 
-asked_more : (limit earlier : ℕ) (past T : List Entry) (e : Entry)
-    → asked_behind limit earlier past (T ++ e ∷ []) ≡ (if completes_request limit (past ++ T) e then e.micros else asked_behind limit earlier past T)
-asked_more limit earlier past [] e =
-    ap (λ (before : List Entry). if completes_request limit before e then e.micros else earlier) (sym (append-nil past))
-asked_more limit earlier past (x ∷ T) e =
-    let asked = if completes_request limit past x then x.micros else earlier in
-    asked_more limit asked (past ++ x ∷ []) T e
-    ∙ ap (λ (before : List Entry). if completes_request limit before e then e.micros else asked_behind limit asked (past ++ x ∷ []) T) (append_assoc past (x ∷ []) T)
+asked_more : (limit : ℕ) (rules : List RuleValue) (earlier : ℕ) (past T : List Entry) (e : Entry)
+    → asked_behind limit rules earlier past (T ++ e ∷ []) ≡ (if completes_request limit rules (past ++ T) e then e.micros else asked_behind limit rules earlier past T)
+asked_more limit rules earlier past [] e =
+    ap (λ (before : List Entry). if completes_request limit rules before e then e.micros else earlier) (sym (append-nil past))
+asked_more limit rules earlier past (x ∷ T) e =
+    let asked = if completes_request limit rules past x then x.micros else earlier in
+    asked_more limit rules asked (past ++ x ∷ []) T e
+    ∙ ap (λ (before : List Entry). if completes_request limit rules before e then e.micros else asked_behind limit rules asked (past ++ x ∷ []) T) (append_assoc past (x ∷ []) T)
 
 -- the time at which its last request was complete
-pub asked_next : (limit : ℕ) (T : List Entry) (e : Entry)
-    → asked_in limit (T ++ e ∷ []) ≡ (if completes_request limit T e then e.micros else asked_in limit T)
-asked_next limit T e = asked_more limit 0 [] T e
+pub asked_next : (limit : ℕ) (rules : List RuleValue) (T : List Entry) (e : Entry)
+    → asked_in limit rules (T ++ e ∷ []) ≡ (if completes_request limit rules T e then e.micros else asked_in limit rules T)
+asked_next limit rules T e = asked_more limit rules 0 [] T e
 
 -- the time of its last frame
 pub last_next : (earlier : ℕ) (T : List Entry) (e : Entry) → last_time earlier (T ++ e ∷ []) ≡ e.micros
@@ -72,34 +75,40 @@ few_ended : (e : Entry) (ended : Option Ended) → length (ended_rows e ended) �
 few_ended e None = omega arith
 few_ended e (Some end) = omega arith
 
-few_of_verdict : (limit : ℕ) (T : List Entry) (e : Entry) (linked : Bool) (did : VerdictValue) → length (verdict_rows limit T e linked did) ≤ 2
-few_of_verdict limit T e linked (message bytes) =
-    let M = messages limit T in
+few_left : (limit : ℕ) (rules : List RuleValue) (T : List Entry) (e : Entry) (made : Option (List ℕ))
+    → length (left_rows limit rules T e made) ≤ 2
+few_left limit rules T e None = omega arith
+few_left limit rules T e (Some bytes) =
+    let M = messages_under rules limit T in
     let step = step_after M (e.dir, bytes) in
     let one = few_before M step in
-    let row = row.message (role_of_step (asked_in limit T) step e.dir bytes) e.dir (message_place limit T e bytes) bytes in
+    let row = row.message (role_of_step (asked_in limit rules T) step e.dir bytes) e.dir (message_place limit rules T e bytes) bytes in
     let both = length-append (closing_before M step) (row ∷ []) in
     omega (arith, one, both)
-few_of_verdict limit T e linked began = omega arith
-few_of_verdict limit T e linked stored = omega arith
-few_of_verdict limit T e linked flowed = omega arith
-few_of_verdict limit T e linked (dropped reason) = omega arith
 
-few_of_frame : (limit : ℕ) (T : List Entry) (e : Entry) → length (frame_rows limit T e) ≤ 3
-few_of_frame limit T e =
+few_of_verdict : (limit : ℕ) (rules : List RuleValue) (T : List Entry) (e : Entry) (linked : Bool) (did : VerdictValue)
+    → length (verdict_rows limit rules T e linked did) ≤ 2
+few_of_verdict limit rules T e linked (message bytes) = few_left limit rules T e (made_of rules bytes)
+few_of_verdict limit rules T e linked began = omega arith
+few_of_verdict limit rules T e linked stored = omega arith
+few_of_verdict limit rules T e linked flowed = omega arith
+few_of_verdict limit rules T e linked (dropped reason) = omega arith
+
+few_of_frame : (limit : ℕ) (rules : List RuleValue) (T : List Entry) (e : Entry) → length (frame_rows limit rules T e) ≤ 3
+few_of_frame limit rules T e =
     let event = verdict limit T e in
     let ended = few_ended e event.ended in
-    let did = few_of_verdict limit T e (ends_nothing event.ended) event.verdict in
-    let both = length-append (ended_rows e event.ended) (verdict_rows limit T e (ends_nothing event.ended) event.verdict) in
+    let did = few_of_verdict limit rules T e (ends_nothing event.ended) event.verdict in
+    let both = length-append (ended_rows e event.ended) (verdict_rows limit rules T e (ends_nothing event.ended) event.verdict) in
     omega (arith, ended, did, both)
 
-few_behind : (limit : ℕ) (past T : List Entry) → length (rows_behind limit past T) ≤ 3 * length T
-few_behind limit past [] = omega arith
-few_behind limit past (e ∷ rest) =
-    let first = few_of_frame limit past e in
-    let later = few_behind limit (past ++ e ∷ []) rest in
-    let both = length-append (frame_rows limit past e) (rows_behind limit (past ++ e ∷ []) rest) in
+few_behind : (limit : ℕ) (rules : List RuleValue) (past T : List Entry) → length (rows_behind limit rules past T) ≤ 3 * length T
+few_behind limit rules past [] = omega arith
+few_behind limit rules past (e ∷ rest) =
+    let first = few_of_frame limit rules past e in
+    let later = few_behind limit rules (past ++ e ∷ []) rest in
+    let both = length-append (frame_rows limit rules past e) (rows_behind limit rules (past ++ e ∷ []) rest) in
     omega (arith, first, later, both)
 
-pub few_rows : (limit : ℕ) (T : List Entry) → length (rows_of limit T) ≤ 3 * length T
-few_rows limit T = few_behind limit [] T
+pub few_rows : (limit : ℕ) (rules : List RuleValue) (T : List Entry) → length (rows_of limit rules T) ≤ 3 * length T
+few_rows limit rules T = few_behind limit rules [] T

@@ -1,31 +1,34 @@
--- The rows of messages in blocks that are folded at first: the front of a row, and one line of words without a shape. What needs
--- attention has its full row there, too.
+-- The rows of messages that rules have left, in blocks that are folded at first: the front of a row, and one line of words
+-- without a shape. What needs attention has its full row there, too.
 use Rattle.std.specs.Prelude.{ℕ, true, List, [], ◌++◌, codes, if◌then◌else◌}
 use Rattle.direction.specs.declared.Dir.{Dir}
 use Rattle.uds_message.specs.Message.{sid}
+use Rattle.uds_rules.specs.Rule.{RuleValue}
 use Rattle.trace_report.specs.declared.row.MessagePlace.{MessagePlace}
 use Rattle.trace_report.specs.declared.roles.MessageRole.{MessageRole}
 use Rattle.trace_report.specs.Targets.{side_text}
-use Rattle.trace_report.specs.Data.{brief_data}
+use Rattle.shown_bytes.specs.Data.{brief_data}
 use Rattle.trace_text.specs.Words.{service_text}
 use Rattle.trace_report.specs.MessageRows.{message_front, after_text, message_row}
 use Rattle.trace_report.specs.Sorts.{message_needs_attention}
 use Rattle.trace_report.specs.declared.roles.MessageRole.TheVariants as role
 
 -- the words of a message that needs no attention, in a block of brief rows; one that does has none there
-abbrev pub brief_words : MessageRole → ℕ → List ℕ → List ℕ
-brief_words role.Request first bytes = service_text (sid bytes) ++ codes " request " ++ brief_data bytes ++ codes " &#8594;"
-brief_words (role.Positive asked) first bytes = codes "&#8592; positive " ++ brief_data bytes ++ codes " " ++ after_text asked first
-brief_words (role.Negative asked) first bytes = []
-brief_words (role.Pending asked) first bytes = codes "&#8592; pending " ++ brief_data bytes ++ codes " " ++ after_text asked first
-brief_words role.KeepAlive first bytes = codes "keep-alive " ++ brief_data bytes ++ codes " &#8594;"
-brief_words role.Stray first bytes = []
+abbrev pub brief_words : List RuleValue → MessageRole → ℕ → List ℕ → List ℕ
+brief_words rules role.Request first bytes = service_text (sid bytes) ++ codes " request " ++ brief_data rules bytes ++ codes " &#8594;"
+brief_words rules (role.Positive asked) first bytes = codes "&#8592; positive " ++ brief_data rules bytes ++ codes " " ++ after_text asked first
+brief_words rules (role.Negative asked) first bytes = []
+brief_words rules (role.Pending asked) first bytes = codes "&#8592; pending " ++ brief_data rules bytes ++ codes " " ++ after_text asked first
+brief_words rules role.KeepAlive first bytes = codes "keep-alive " ++ brief_data rules bytes ++ codes " &#8594;"
+brief_words rules role.Stray first bytes = []
 
 -- the row of a message that needs no attention, in a block of brief rows
-abbrev pub brief_row : ℕ → MessageRole → Dir → MessagePlace → List ℕ → List ℕ
-brief_row origin is d place bytes =
-    message_front true origin is place ++ codes "<td class=\"" ++ side_text d ++ codes "\">" ++ brief_words is place.first.micros bytes ++ codes "\n"
+abbrev pub brief_row : List RuleValue → ℕ → MessageRole → Dir → MessagePlace → List ℕ → List ℕ
+brief_row rules origin is d place bytes =
+    message_front true origin is place ++ codes "<td class=\"" ++ side_text d ++ codes "\">"
+    ++ brief_words rules is place.first.micros bytes ++ codes "\n"
 
 -- the row of a message in a block of brief rows: in full, where the message needs attention
-abbrev pub brief_message : ℕ → MessageRole → Dir → MessagePlace → List ℕ → List ℕ
-brief_message origin is d place bytes = if message_needs_attention is then message_row origin is d place bytes else brief_row origin is d place bytes
+abbrev pub brief_message : List RuleValue → ℕ → MessageRole → Dir → MessagePlace → List ℕ → List ℕ
+brief_message rules origin is d place bytes =
+    if message_needs_attention is then message_row rules origin is d place bytes else brief_row rules origin is d place bytes

@@ -1,6 +1,7 @@
--- The chart of a page: the text of its rows, each behind what begins before it.
+-- The chart of a page under rules: the text of its rows, each behind what begins before it.
 use Rattle.std.specs.Prelude.{ℕ, Bool, true, false, List, [], ◌++◌, ◌∷◌}
 use Rattle.direction.specs.declared.Dir.{Dir}
+use Rattle.uds_rules.specs.Rule.{RuleValue}
 use Rattle.trace_report.specs.declared.row.MessagePlace.{MessagePlace}
 use Rattle.trace_report.specs.declared.roles.MessageRole.{MessageRole}
 use Rattle.trace_report.specs.Rows.{RowValue, message, no_answer, dropped, ended, unfinished}
@@ -10,26 +11,26 @@ use Rattle.trace_report.specs.MissingRows.{no_answer_row, dropped_row, ended_row
 use Rattle.trace_report.specs.declared.blocks.Blocks.{Blocks}
 use Rattle.trace_report.specs.Blocks.{begins_exchange, one_more_row, opening_text, is_brief}
 
--- the row of a message, in a block of brief rows or in another
-abbrev pub message_text : Bool → ℕ → MessageRole → Dir → MessagePlace → List ℕ → List ℕ
-message_text true origin is d place bytes = brief_message origin is d place bytes
-message_text false origin is d place bytes = message_row origin is d place bytes
+-- the row of a message that rules have left, in a block of brief rows or in another
+abbrev pub message_text : List RuleValue → Bool → ℕ → MessageRole → Dir → MessagePlace → List ℕ → List ℕ
+message_text rules true origin is d place bytes = brief_message rules origin is d place bytes
+message_text rules false origin is d place bytes = message_row rules origin is d place bytes
 
 -- the text of a row, in a block of brief rows or in another, where `origin` is the time of the first frame of the two sides
-abbrev pub row_text : Bool → ℕ → RowValue → List ℕ
-row_text brief origin (message is d place bytes) = message_text brief origin is d place bytes
-row_text brief origin (no_answer number silent) = no_answer_row number silent
-row_text brief origin (dropped place d linked why) = dropped_row linked origin place d why
-row_text brief origin (ended place end) = ended_row true origin place end
-row_text brief origin (unfinished d line len) = unfinished_row true d line len
+abbrev pub row_text : List RuleValue → Bool → ℕ → RowValue → List ℕ
+row_text rules brief origin (message is d place bytes) = message_text rules brief origin is d place bytes
+row_text rules brief origin (no_answer number silent) = no_answer_row number silent
+row_text rules brief origin (dropped place d linked why) = dropped_row linked origin place d why
+row_text rules brief origin (ended place end) = ended_row true origin place end
+row_text rules brief origin (unfinished d line len) = unfinished_row true d line len
 
 -- the text of a row and of what begins before it, where these blocks stand before it
-abbrev pub placed_text : ℕ → Blocks → RowValue → List ℕ
-placed_text origin blocks row =
-    opening_text origin blocks row ++ row_text (is_brief (one_more_row (begins_exchange row) blocks)) origin row
+abbrev pub placed_text : List RuleValue → ℕ → Blocks → RowValue → List ℕ
+placed_text rules origin blocks row =
+    opening_text origin blocks row ++ row_text rules (is_brief (one_more_row (begins_exchange row) blocks)) origin row
 
 -- the text of these rows, where these blocks stand before them
-abbrev pub rows_text : ℕ → Blocks → List RowValue → List ℕ
-rows_text origin blocks [] = []
-rows_text origin blocks (row ∷ rest) =
-    placed_text origin blocks row ++ rows_text origin (one_more_row (begins_exchange row) blocks) rest
+abbrev pub rows_text : List RuleValue → ℕ → Blocks → List RowValue → List ℕ
+rows_text rules origin blocks [] = []
+rows_text rules origin blocks (row ∷ rest) =
+    placed_text rules origin blocks row ++ rows_text rules origin (one_more_row (begins_exchange row) blocks) rest

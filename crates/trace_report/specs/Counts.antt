@@ -20,11 +20,15 @@ count_line needs words count =
 abbrev pub sort_count : Sort → List ℕ → ℕ → List ℕ
 sort_count kind words count = count_line (needs_attention kind) words count
 
--- how many lines, frames and messages the log has
+-- how many messages of the log rules left out, where they left out one
+abbrev pub left_out_count : ℕ → List ℕ
+left_out_count count = if count == 0 then [] else count_line false (codes "left out") count
+
+-- how many lines, frames and messages the log has, and how many messages rules left out
 abbrev pub log_counts : Summary → List ℕ
 log_counts summary =
     count_line false (codes "lines") summary.lines ++ count_line false (codes "frames") summary.frames
-    ++ count_line false (codes "messages") summary.messages
+    ++ count_line false (codes "messages") summary.messages ++ left_out_count summary.left_out
 
 -- how many requests the rows tell, and how these were answered
 abbrev pub answer_counts : SortCounts → List ℕ

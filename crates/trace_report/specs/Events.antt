@@ -1,15 +1,18 @@
--- The rows of a trace: what the report tells of each frame, and of the end of the log, by the frames before it.
+-- The rows of a trace under rules: what the report tells of each frame, and of the end of the log, by the frames before it.
+-- What frames did is told of the log as it is, and of messages what the rules leave.
 use Rattle.std.specs.Prelude.{ℕ, ◌+◌, Bool, true, false, List, [], ◌∷◌, ◌++◌, Option, Some, None, if◌then◌else◌}
 use Rattle.direction.specs.Dir.{Message}
 use Rattle.direction.specs.declared.Dir.{Dir}
 use Rattle.isotp_receive.specs.declared.event.Ended.{Ended}
 use Rattle.isotp_receive.specs.StandingReception.{StandingReception, receptions_after, stands}
 use Rattle.isotp_receive.specs.Trace.{Entry, FrameRole, single, first, consecutive, continue_or_wait, overflow, no_part, role}
-use Rattle.isotp_receive.specs.Verdict.{VerdictValue, EventValue, message, began, stored, flowed, dropped, messages, verdict}
+use Rattle.isotp_receive.specs.Verdict.{VerdictValue, EventValue, message, began, stored, flowed, dropped, verdict}
 use Rattle.uds_exchange.specs.Judging.{number_after, open_number, step_after}
 use Rattle.uds_exchange.specs.Order.{open_request}
 use Rattle.uds_exchange.specs.declared.step.Step.{Step}
 use Rattle.uds_message.specs.Message.{is_suppressing}
+use Rattle.uds_rules.specs.Rule.{RuleValue, made_of}
+use Rattle.trace_log.specs.Messages.{messages_under}
 use Rattle.trace_canon.specs.FirstFrames.{first_frame, place_of}
 use Rattle.trace_report.specs.Rows.{RowValue}
 use Rattle.trace_report.specs.declared.row.MessagePlace.{MessagePlace}
@@ -26,28 +29,33 @@ is_request_step becomes.Removed = false
 is_request_step becomes.Hold = false
 is_request_step becomes.Pass = false
 
--- the frame e completes a request after the frames T, where it does this there
-abbrev pub completes_request_by : ℕ → List Entry → Entry → VerdictValue → Bool
-completes_request_by limit T e (message bytes) = is_request_step (step_after (messages limit T) (e.dir, bytes))
-completes_request_by limit T e began = false
-completes_request_by limit T e stored = false
-completes_request_by limit T e flowed = false
-completes_request_by limit T e (dropped reason) = false
+-- the message that rules left of the one that the frame e completes after the frames T, if they left one, is a request
+abbrev pub is_request_left : ℕ → List RuleValue → List Entry → Entry → Option (List ℕ) → Bool
+is_request_left limit rules T e None = false
+is_request_left limit rules T e (Some bytes) = is_request_step (step_after (messages_under rules limit T) (e.dir, bytes))
+
+-- the frame e completes a request under rules after the frames T, where it does this there
+abbrev pub completes_request_by : ℕ → List RuleValue → List Entry → Entry → VerdictValue → Bool
+completes_request_by limit rules T e (message bytes) = is_request_left limit rules T e (made_of rules bytes)
+completes_request_by limit rules T e began = false
+completes_request_by limit rules T e stored = false
+completes_request_by limit rules T e flowed = false
+completes_request_by limit rules T e (dropped reason) = false
 
 -- the frame e completes a request after the frames T
-abbrev pub completes_request : ℕ → List Entry → Entry → Bool
-completes_request limit T e = completes_request_by limit T e (verdict limit T e).verdict
+abbrev pub completes_request : ℕ → List RuleValue → List Entry → Entry → Bool
+completes_request limit rules T e = completes_request_by limit rules T e (verdict limit T e).verdict
 
 -- the time of the last of these frames that completes a request, where the frames `past` came before them; `earlier`
 -- where none of them does
-abbrev pub asked_behind : ℕ → ℕ → List Entry → List Entry → ℕ
-asked_behind limit earlier past [] = earlier
-asked_behind limit earlier past (e ∷ rest) =
-    asked_behind limit (if completes_request limit past e then e.micros else earlier) (past ++ e ∷ []) rest
+abbrev pub asked_behind : ℕ → List RuleValue → ℕ → List Entry → List Entry → ℕ
+asked_behind limit rules earlier past [] = earlier
+asked_behind limit rules earlier past (e ∷ rest) =
+    asked_behind limit rules (if completes_request limit rules past e then e.micros else earlier) (past ++ e ∷ []) rest
 
 -- the time at which the last request of a trace was complete; 0 where it has none
-abbrev pub asked_in : ℕ → List Entry → ℕ
-asked_in limit T = asked_behind limit 0 [] T
+abbrev pub asked_in : ℕ → List RuleValue → List Entry → ℕ
+asked_in limit rules T = asked_behind limit rules 0 [] T
 
 -- how many frames carry a message that a frame of this role completes, where this reception stands for its direction
 abbrev pub frames_by : Option StandingReception → FrameRole → ℕ
@@ -59,11 +67,11 @@ frames_by standing continue_or_wait = 1
 frames_by standing overflow = 1
 frames_by standing no_part = 1
 
--- the place of a message that the frame e completes after the frames T: its item, its first frame and its last one, and how
--- many carry it
-abbrev pub message_place : ℕ → List Entry → Entry → List ℕ → MessagePlace
-message_place limit T e bytes = record {
-  item = number_after (messages limit T) (e.dir, bytes);
+-- the place of what rules left of a message that the frame e completes after the frames T: its item, its first frame and
+-- its last one, and how many carry it
+abbrev pub message_place : ℕ → List RuleValue → List Entry → Entry → List ℕ → MessagePlace
+message_place limit rules T e bytes = record {
+  item = number_after (messages_under rules limit T) (e.dir, bytes);
   first = place_of (first_frame T e);
   last = place_of e;
   frames = frames_by (stands limit e.dir T) (role e.dir e);
@@ -83,12 +91,18 @@ closing_rows M = waiting_row M (open_request M)
 abbrev pub closing_before : List Message → Step → List RowValue
 closing_before M step = if is_request_step step then closing_rows M else []
 
--- the rows of a message that the frame e completes after the frames T, where this is what becomes of it: what closes before
--- it, and its own
-abbrev pub message_rows : ℕ → List Entry → Entry → List ℕ → Step → List RowValue
-message_rows limit T e bytes step =
-    closing_before (messages limit T) step
-    ++ row.message (role_of_step (asked_in limit T) step e.dir bytes) e.dir (message_place limit T e bytes) bytes ∷ []
+-- the rows of what rules left of a message that the frame e completes after the frames T, where this is what becomes of it:
+-- what closes before it, and its own
+abbrev pub message_rows : ℕ → List RuleValue → List Entry → Entry → List ℕ → Step → List RowValue
+message_rows limit rules T e bytes step =
+    closing_before (messages_under rules limit T) step
+    ++ row.message (role_of_step (asked_in limit rules T) step e.dir bytes) e.dir (message_place limit rules T e bytes) bytes ∷ []
+
+-- the rows of the message that rules left of the one that the frame e completes after the frames T, if they left one
+abbrev pub left_rows : ℕ → List RuleValue → List Entry → Entry → Option (List ℕ) → List RowValue
+left_rows limit rules T e None = []
+left_rows limit rules T e (Some bytes) =
+    message_rows limit rules T e bytes (step_after (messages_under rules limit T) (e.dir, bytes))
 
 -- a frame ended no reception
 abbrev pub ends_nothing : Option Ended → Bool
@@ -96,12 +110,12 @@ ends_nothing None = true
 ends_nothing (Some end) = false
 
 -- the rows that tell what the frame e does after the frames T; links lead to that of a dropped frame where this is said
-abbrev pub verdict_rows : ℕ → List Entry → Entry → Bool → VerdictValue → List RowValue
-verdict_rows limit T e linked (message bytes) = message_rows limit T e bytes (step_after (messages limit T) (e.dir, bytes))
-verdict_rows limit T e linked began = []
-verdict_rows limit T e linked stored = []
-verdict_rows limit T e linked flowed = []
-verdict_rows limit T e linked (dropped reason) = row.dropped (place_of e) e.dir linked reason ∷ []
+abbrev pub verdict_rows : ℕ → List RuleValue → List Entry → Entry → Bool → VerdictValue → List RowValue
+verdict_rows limit rules T e linked (message bytes) = left_rows limit rules T e (made_of rules bytes)
+verdict_rows limit rules T e linked began = []
+verdict_rows limit rules T e linked stored = []
+verdict_rows limit rules T e linked flowed = []
+verdict_rows limit rules T e linked (dropped reason) = row.dropped (place_of e) e.dir linked reason ∷ []
 
 -- the row that tells which reception the frame e ended, if it ended one
 abbrev pub ended_rows : Entry → Option Ended → List RowValue
@@ -109,21 +123,21 @@ ended_rows e None = []
 ended_rows e (Some end) = row.ended (place_of e) end ∷ []
 
 -- the rows that tell what the frame e ends and does after the frames T
-abbrev pub event_rows : ℕ → List Entry → Entry → EventValue → List RowValue
-event_rows limit T e event = ended_rows e event.ended ++ verdict_rows limit T e (ends_nothing event.ended) event.verdict
+abbrev pub event_rows : ℕ → List RuleValue → List Entry → Entry → EventValue → List RowValue
+event_rows limit rules T e event = ended_rows e event.ended ++ verdict_rows limit rules T e (ends_nothing event.ended) event.verdict
 
 -- the rows of the frame e after the frames T
-abbrev pub frame_rows : ℕ → List Entry → Entry → List RowValue
-frame_rows limit T e = event_rows limit T e (verdict limit T e)
+abbrev pub frame_rows : ℕ → List RuleValue → List Entry → Entry → List RowValue
+frame_rows limit rules T e = event_rows limit rules T e (verdict limit T e)
 
 -- the rows of these frames, where the frames `past` came before them
-abbrev pub rows_behind : ℕ → List Entry → List Entry → List RowValue
-rows_behind limit past [] = []
-rows_behind limit past (e ∷ rest) = frame_rows limit past e ++ rows_behind limit (past ++ e ∷ []) rest
+abbrev pub rows_behind : ℕ → List RuleValue → List Entry → List Entry → List RowValue
+rows_behind limit rules past [] = []
+rows_behind limit rules past (e ∷ rest) = frame_rows limit rules past e ++ rows_behind limit rules (past ++ e ∷ []) rest
 
 -- the rows of a trace, but for those of its end
-abbrev pub rows_of : ℕ → List Entry → List RowValue
-rows_of limit T = rows_behind limit [] T
+abbrev pub rows_of : ℕ → List RuleValue → List Entry → List RowValue
+rows_of limit rules T = rows_behind limit rules [] T
 
 -- the row of a reception that stands at the end of the log, if one does
 abbrev pub standing_row : Dir → Option StandingReception → List RowValue
@@ -131,7 +145,7 @@ standing_row d None = []
 standing_row d (Some begun) = row.unfinished d begun.line begun.len ∷ []
 
 -- the rows of the end of a log: the receptions that stand, the tester's first, and the request that waits
-abbrev pub end_rows : ℕ → List Entry → List RowValue
-end_rows limit T =
+abbrev pub end_rows : ℕ → List RuleValue → List Entry → List RowValue
+end_rows limit rules T =
     standing_row dir.Tester (receptions_after limit T).tester ++ standing_row dir.Unit (receptions_after limit T).unit
-    ++ closing_rows (messages limit T)
+    ++ closing_rows (messages_under rules limit T)

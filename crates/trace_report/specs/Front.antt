@@ -4,19 +4,30 @@ use Rattle.std.specs.Prelude.{ℕ, ◌++◌, List, codes}
 use Rattle.can_log.specs.Canonical.{identifier_text}
 use Rattle.can_log.specs.declared.frame.Id.{Id}
 use Rattle.trace_log.specs.Settings.{Settings}
-use Rattle.trace_report.specs.LogNames.{name_text}
+use Rattle.uds_rules.specs.Rule.{RuleValue}
+use Rattle.trace_report.specs.RulesStyle.{rules_style}
+use Rattle.shown_bytes.specs.LogNames.{name_text}
 
--- What a page is made for: its style, the name of the log, the identifiers, and the limit of the log.
+-- What a page is made for: its style, the name of the log, the identifiers, the limit of the log, and the rules that its
+-- messages are under.
 pub record PageTitleValue : Type 0 where
   pub style : List ℕ
   pub name : List ℕ
   pub tester : Id
   pub unit : Id
   pub max_bytes : ℕ
+  pub rules : List RuleValue
 
 -- what the page of a log is made for that has this style, this name and this configuration
 abbrev pub page_title : List ℕ → List ℕ → Settings → PageTitleValue
-page_title style name settings = record { style = style; name = name; tester = settings.tester; unit = settings.unit; max_bytes = settings.max_bytes }
+page_title style name settings = record {
+  style = style;
+  name = name;
+  tester = settings.tester;
+  unit = settings.unit;
+  max_bytes = settings.max_bytes;
+  rules = settings.rules;
+}
 
 -- the start of each page, by which nothing may be fetched and nothing may run
 abbrev pub page_start : List ℕ
@@ -30,7 +41,7 @@ page_start =
 abbrev pub head_text : PageTitleValue → List ℕ
 head_text title =
     page_start ++ codes "<title>" ++ name_text title.name ++ codes " - udsnorm report</title>\n<style>\n" ++ title.style
-    ++ codes "</style>\n</head>\n<body>\n"
+    ++ rules_style title.rules ++ codes "</style>\n</head>\n<body>\n"
 
 -- the shapes of the arrows: of a message (t, u), of a frame that was dropped (tx, ux), and of what was cut short (te, ue)
 abbrev pub shapes_text : List ℕ

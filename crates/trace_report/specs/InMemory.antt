@@ -9,7 +9,7 @@ use Rattle.trace_report.specs.Page.{report_script}
 
 -- the log can be read and has these counts, and this is the page with this title
 abbrev pub IsPageWith : PageTitleValue → ℕ → Settings → List ℕ → List ℕ → Summary → Type 0
-IsPageWith title limit = IsSaidWith (report_script title limit) limit
+IsPageWith title limit settings = IsSaidWith (report_script title limit settings.rules) limit settings
 
 -- memory is needed to gather a page: each has its front
 abbrev pub NeedsMemoryForPage : ℕ → Settings → List ℕ → Type 0

@@ -4,7 +4,7 @@ use Rattle.can_log.specs.declared.frame.Stamped.{Stamped}
 use Rattle.trace_log.specs.Needing.{HasFrame}
 use Rattle.trace_log.specs.Settings.{Settings}
 use Rattle.trace_log.specs.Summing.{summary_of}
-use Rattle.trace_run.specs.Ran.{CantBeRead}
+use Rattle.trace_run.specs.Stopping.{CantBeRead}
 use Rattle.trace_log.specs.ReadAs.{IsReadAs}
 use Rattle.trace_log.specs.Trace.{trace}
 use Rattle.trace_log.specs.declared.fault.CompareFault.{CompareFault}
@@ -22,7 +22,7 @@ pub record KeptSessionsValue : Type 0 where
 abbrev pub KeepsOne : ℕ → Settings → List ℕ → Result SessionValue Fault → Type 0
 KeepsOne limit settings log (Ok session) =
     (meanings : List (Option Stamped)) × IsReadAs settings log (Ok meanings)
-    × (session ≡ session_of limit (trace settings meanings) (summary_of limit settings log meanings))
+    × (session ≡ session_of limit settings.rules (trace settings meanings) (summary_of limit settings log meanings))
 KeepsOne limit settings log (Err fault) = CantBeRead settings log fault
 
 -- What is answered of two logs: what both say; else why the first can't be read; or why the second can't, where the

@@ -1,60 +1,39 @@
 -- What holds of a page, whatever log it is of.
 use Prim.Native.Char.{code}
-use Rattle.std.specs.Prelude.{◌≡◌, ◌≢◌, ◌↔◌, ℕ, ◌==◌, ◌<◌, ◌^◌, ◌&&◌, not, ◌||◌, Bool, true, ⊤, List, [], ◌∷◌, codes, false, length, map, nat_le, ◌++◌, Option, Some, None}
+use Rattle.std.specs.Prelude.{◌≡◌, ◌≢◌, ◌↔◌, ℕ, ◌==◌, ◌<◌, ◌^◌, true, ⊤, List, [], ◌∷◌, false, length, map, ◌++◌, Option, Some, None}
 use Rattle.std.specs.List.{AllByRecursion, list_any}
 use Rattle.can_log.specs.declared.frame.Stamped.{Stamped}
 use Rattle.direction.specs.declared.Dir.{Dir}
 use Rattle.isotp_receive.specs.declared.TheConstants.{MESSAGE_LIMIT}
 use Rattle.isotp_receive.specs.Trace.{Entry}
-use Rattle.isotp_receive.specs.Verdict.{messages}
 use Rattle.uds_exchange.specs.Meaning.{meaning}
 use Rattle.uds_exchange.specs.declared.step.Step.TheVariants as becomes
 use Rattle.uds_message.specs.Message.{is_negative_response}
+use Rattle.uds_rules.specs.Rule.{RuleValue}
+use Rattle.trace_log.specs.Messages.{messages_under}
 use Rattle.trace_log.specs.Settings.{Settings}
 use Rattle.trace_log.specs.Trace.{trace}
 use Rattle.trace_report.specs.Events.{asked_in, completes_request, rows_of}
 use Rattle.trace_report.specs.Roles.{role_of_step, asked_at}
-use Rattle.trace_report.specs.LogNames.{name_text}
 use Rattle.trace_report.specs.Items.{item_value, items_in}
 use Rattle.trace_report.specs.Linked.{HasEachTarget, identifiers_in}
-use Rattle.trace_report.specs.Looks.{has_front, look_told, signs}
+use Rattle.trace_report.specs.Looks.{look_told, signs}
 use Rattle.trace_report.specs.Page.{all_rows}
 use Rattle.trace_report.specs.MessageRows.{message_row, note_text}
 use Rattle.trace_report.specs.Style.{page_style}
-use Rattle.trace_report.specs.Letters.{letters}
+use Rattle.trace_report.specs.RulesStyle.{ruled_style}
 use Rattle.trace_report.specs.declared.row.MessagePlace.{MessagePlace}
 use Rattle.trace_report.specs.declared.roles.MessageRole.{MessageRole}
 use Rattle.trace_report.specs.declared.roles.MessageRole.TheVariants as message_role
-
--- a byte that opens and closes nothing in HTML: printable ASCII, and none of < > " '
-abbrev pub is_harmless : ℕ → Bool
-is_harmless b =
-    nat_le (code " ") b && (nat_le b (code "~") && (not (b == code "<") && (not (b == code ">") && (not (b == code "\"") && not (b == code "'")))))
-
--- the text begins with what HTML has behind the & of one of the five signs
-abbrev pub begins_sign : List ℕ → Bool
-begins_sign text =
-    has_front text (codes "amp;") || has_front text (codes "lt;") || has_front text (codes "gt;")
-    || has_front text (codes "quot;") || has_front text (codes "#39;")
-
--- each & of the text begins one of these names of signs
-abbrev pub is_escaped : List ℕ → Bool
-is_escaped [] = true
-is_escaped (b ∷ rest) = (not (b == code "&") || begins_sign rest) && is_escaped rest
-
--- the name of a log is harmless on its page, whatever its file is called: its bytes open and close nothing, and an & stands
--- for a sign alone
-abbrev pub NameIsHarmless : Type 0
-NameIsHarmless = (name : List ℕ) → AllByRecursion (λ b. is_harmless b ≡ true) (name_text name) × (is_escaped (name_text name) ≡ true)
-
--- each letter that is shown for the bytes of a message opens and closes nothing, and is no &
-abbrev pub LettersAreHarmless : Type 0
-LettersAreHarmless = (bytes : List ℕ) → AllByRecursion (λ b. (is_harmless b && not (b == code "&")) ≡ true) (letters bytes)
 
 -- the style of a page holds no tag, since no byte of it is a <: what would end the element that it stands in begins with that,
 -- and so does a comment, which could hide what stands behind it
 abbrev pub StyleHoldsNoTag : Type 0
 StyleHoldsNoTag = list_any (λ b. b == code "<") page_style ≡ false
+
+-- and neither does what it has besides under rules
+abbrev pub RuledStyleHoldsNoTag : Type 0
+RuledStyleHoldsNoTag = list_any (λ b. b == code "<") ruled_style ≡ false
 
 -- no element of the list is equal to one behind it
 abbrev pub AreDistinct : {X : Type 0} → List X → Type 0
@@ -65,18 +44,20 @@ AreDistinct (x ∷ rest) = AllByRecursion (λ later. x ≢ later) rest × AreDis
 -- ends where the log is refused
 abbrev pub IdentifiersStandOnce : Type 0
 IdentifiersStandOnce = (settings : Settings) (meanings : List (Option Stamped)) → length meanings < 2 ^ 62
-    → AreDistinct (identifiers_in (all_rows MESSAGE_LIMIT (trace settings meanings)))
-    × AreDistinct (identifiers_in (rows_of MESSAGE_LIMIT (trace settings meanings)))
+    → AreDistinct (identifiers_in (all_rows MESSAGE_LIMIT settings.rules (trace settings meanings)))
+    × AreDistinct (identifiers_in (rows_of MESSAGE_LIMIT settings.rules (trace settings meanings)))
 
 -- each link of the verdict of a log leads to one of its rows, on the page of the whole log, and on one that ends where the log
 -- is refused
 abbrev pub LinksHaveTargets : Type 0
 LinksHaveTargets = (settings : Settings) (meanings : List (Option Stamped))
-    → HasEachTarget (all_rows MESSAGE_LIMIT (trace settings meanings)) × HasEachTarget (rows_of MESSAGE_LIMIT (trace settings meanings))
+    → HasEachTarget (all_rows MESSAGE_LIMIT settings.rules (trace settings meanings))
+    × HasEachTarget (rows_of MESSAGE_LIMIT settings.rules (trace settings meanings))
 
 -- the items that the rows of a session tell are what its messages mean, and so those that `list` and `compare` have
 abbrev pub ItemsAreTheMeaning : Type 0
-ItemsAreTheMeaning = (T : List Entry) → map item_value (items_in (all_rows MESSAGE_LIMIT T)) ≡ meaning (messages MESSAGE_LIMIT T)
+ItemsAreTheMeaning = (rules : List RuleValue) (T : List Entry)
+    → map item_value (items_in (all_rows MESSAGE_LIMIT rules T)) ≡ meaning (messages_under rules MESSAGE_LIMIT T)
 
 -- an answer is told as negative exactly where it is a negative response
 abbrev pub NegativeIsNegative : Type 0
@@ -92,19 +73,19 @@ ended_at time place = record place { last = record place.last { micros = time } 
 
 -- the time of a message that is no reply is that of its last frame: when the first one came is not told
 abbrev pub TimeIsOfTheLastFrame : Type 0
-TimeIsOfTheLastFrame = (origin time : ℕ) (is : MessageRole) (d : Dir) (place : MessagePlace) (bytes : List ℕ) → asked_at is ≡ None
-    → message_row origin is d (begun_at time place) bytes ≡ message_row origin is d place bytes
+TimeIsOfTheLastFrame = (rules : List RuleValue) (origin time : ℕ) (is : MessageRole) (d : Dir) (place : MessagePlace) (bytes : List ℕ)
+    → asked_at is ≡ None → message_row rules origin is d (begun_at time place) bytes ≡ message_row rules origin is d place bytes
 
 -- a reply came as long after its request as its first frame did, whenever its last one came
 abbrev pub AfterIsToTheFirstFrame : Type 0
-AfterIsToTheFirstFrame = (time count : ℕ) (is : MessageRole) (place : MessagePlace) → note_text is (ended_at time place) count ≡ note_text is place count
+AfterIsToTheFirstFrame = (time : ℕ) (count : Option ℕ) (is : MessageRole) (place : MessagePlace) → note_text is (ended_at time place) count ≡ note_text is place count
 
 -- how long after its request a reply came counts from the last request that was complete before, and each request is so with
 -- its last frame
 abbrev pub AfterIsFromTheLastFrame : Type 0
-AfterIsFromTheLastFrame = (limit : ℕ) (T : List Entry) (e : Entry)
-    → (completes_request limit T e ≡ true → asked_in limit (T ++ e ∷ []) ≡ e.micros)
-    × (completes_request limit T e ≡ false → asked_in limit (T ++ e ∷ []) ≡ asked_in limit T)
+AfterIsFromTheLastFrame = (limit : ℕ) (rules : List RuleValue) (T : List Entry) (e : Entry)
+    → (completes_request limit rules T e ≡ true → asked_in limit rules (T ++ e ∷ []) ≡ e.micros)
+    × (completes_request limit rules T e ≡ false → asked_in limit rules (T ++ e ∷ []) ≡ asked_in limit rules T)
 
 -- whatever follows the first bytes of a sign, they tell its look: no file that begins with them is taken for another one
 abbrev pub LooksAreTold : Type 0

@@ -1,7 +1,4 @@
 pub mod Durations
-pub mod Letters
-pub mod StandardNames
-pub mod Data
 pub mod Targets
 pub mod Roles
 pub mod Rows
@@ -18,7 +15,8 @@ pub mod Looks
 pub mod Causes
 pub mod Verdict
 pub mod Style
-pub mod LogNames
+pub mod RulesStyle
+pub mod RuleWords
 pub mod Front
 pub mod Help
 pub mod Page

@@ -22,11 +22,11 @@ target_at (unfinished d begun len) = Some (target.Side d)
 abbrev pub targets_in : List RowValue → List LinkTarget
 targets_in rows = filter_map target_at rows
 
--- the identifiers of all pages of one log
+-- the identifiers of all pages of one log; `rules` stands on those that are under rules
 abbrev pub fixed_identifiers : List (List ℕ)
 fixed_identifiers =
     codes "t" ∷ codes "u" ∷ codes "tx" ∷ codes "ux" ∷ codes "te" ∷ codes "ue" ∷ codes "cut" ∷ codes "session" ∷ codes "only"
-    ∷ codes "verdict" ∷ codes "help" ∷ codes "end" ∷ []
+    ∷ codes "verdict" ∷ codes "help" ∷ codes "end" ∷ codes "rules" ∷ []
 
 -- all identifiers of a page with these rows
 abbrev pub identifiers_in : List RowValue → List (List ℕ)

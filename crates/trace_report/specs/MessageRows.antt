@@ -1,5 +1,5 @@
 -- The rows of messages: where a message stands, what it is to its item, its bytes, and a note.
-use Rattle.std.specs.Prelude.{ℕ, ◌==◌, ◌&&◌, Bool, true, List, [], ◌++◌, codes, length, nat_lt, Option, Some, None, if◌then◌else◌}
+use Rattle.std.specs.Prelude.{ℕ, ◌==◌, ◌&&◌, Bool, true, List, [], ◌++◌, codes, nat_lt, Option, Some, None, if◌then◌else◌}
 use Rattle.std.specs.Fmt.{decimal}
 use Rattle.direction.specs.declared.Dir.{Dir}
 use Rattle.uds_message.specs.Message.{sid, response_code}
@@ -7,10 +7,11 @@ use Rattle.trace_report.specs.declared.row.MessagePlace.{MessagePlace}
 use Rattle.trace_report.specs.declared.roles.MessageRole.{MessageRole}
 use Rattle.trace_report.specs.Targets.{target_if}
 use Rattle.trace_report.specs.declared.targets.LinkTarget.TheVariants.{Item}
-use Rattle.trace_report.specs.Data.{data_text}
+use Rattle.uds_rules.specs.Rule.{RuleValue}
+use Rattle.shown_bytes.specs.Data.{data_text, known_length}
 use Rattle.trace_report.specs.Durations.{milliseconds_between, seconds_between}
 use Rattle.trace_text.specs.Words.{direction_text, service_text}
-use Rattle.trace_report.specs.StandardNames.{page_code}
+use Rattle.shown_bytes.specs.StandardNames.{page_code}
 use Rattle.trace_report.specs.Rows.{cell_front, cell_end, item_header, item_repeated, row_front}
 use Rattle.trace_report.specs.Roles.{begins_item, asked_at}
 use Rattle.trace_report.specs.declared.row.Arrow.TheVariants as arrow
@@ -95,19 +96,24 @@ abbrev pub further_note : Option ℕ → ℕ → List ℕ
 further_note None first = []
 further_note (Some asked) first = after_other asked first
 
+-- how many bytes several frames carry, where that is known
+abbrev pub carried_words : Option ℕ → List ℕ
+carried_words None = []
+carried_words (Some count) = decimal count ++ codes " bytes "
+
 -- a note on a message of several frames: how many bytes they carry, and how long after its request it came, if it replies to
 -- one
-abbrev pub frames_note : ℕ → ℕ → Option ℕ → ℕ → List ℕ
+abbrev pub frames_note : Option ℕ → ℕ → Option ℕ → ℕ → List ℕ
 frames_note count frames asked first =
-    codes "<br><i>" ++ decimal count ++ codes " bytes in " ++ decimal frames ++ codes " frames" ++ further_note asked first ++ codes "</i>"
+    codes "<br><i>" ++ carried_words count ++ codes "in " ++ decimal frames ++ codes " frames" ++ further_note asked first ++ codes "</i>"
 
 -- the note on a message of so many bytes, by how many frames carry it
-abbrev pub note_text : MessageRole → MessagePlace → ℕ → List ℕ
+abbrev pub note_text : MessageRole → MessagePlace → Option ℕ → List ℕ
 note_text is place count =
     if nat_lt 1 place.frames then frames_note count place.frames (asked_at is) place.first.micros else single_note (asked_at is) place.first.micros
 
--- the full row of a message, where `origin` is the time of the first frame of the two sides
-abbrev pub message_row : ℕ → MessageRole → Dir → MessagePlace → List ℕ → List ℕ
-message_row origin is d place bytes =
-    message_front true origin is place ++ cell_front d ++ role_words is d bytes ++ data_text bytes ++ note_text is place (length bytes)
-    ++ cell_end d arrow.Headed
+-- the full row of a message that rules have left, where `origin` is the time of the first frame of the two sides
+abbrev pub message_row : List RuleValue → ℕ → MessageRole → Dir → MessagePlace → List ℕ → List ℕ
+message_row rules origin is d place bytes =
+    message_front true origin is place ++ cell_front d ++ role_words is d bytes ++ data_text rules bytes
+    ++ note_text is place (known_length rules bytes) ++ cell_end d arrow.Headed

@@ -5,10 +5,11 @@ use Rattle.std.specs.List.{AllByRecursion}
 use Rattle.direction.specs.Dir.{Message}
 use Rattle.isotp_receive.specs.declared.TheConstants.{MESSAGE_LIMIT}
 use Rattle.isotp_receive.specs.Trace.{Entry}
-use Rattle.isotp_receive.specs.Verdict.{messages}
 use Rattle.uds_exchange.specs.Meaning.{ItemValue, exchange, stray_of, meaning}
 use Rattle.uds_exchange.specs.Numbers.{HasItem, HasPartBy, IsAnsweredBy, IsBegunBy, IsPendingBy}
 use Rattle.uds_message.specs.Message.{is_suppressing}
+use Rattle.uds_rules.specs.Rule.{RuleValue}
+use Rattle.trace_log.specs.Messages.{messages_under}
 use Rattle.trace_canon.specs.MessagesScript.{placed_behind}
 use Rattle.trace_report.specs.Page.{all_rows}
 use Rattle.trace_report.specs.Rows.{RowValue, message, no_answer, dropped, ended, unfinished}
@@ -38,7 +39,8 @@ TellsItsItem items (unfinished d line len) = ⊤
 
 -- The number that a row gives an item is the place of that item in the meaning.
 abbrev pub RowNumbersArePlaces : Type 0
-RowNumbersArePlaces = (T : List Entry) → AllByRecursion (TellsItsItem (meaning (messages MESSAGE_LIMIT T))) (all_rows MESSAGE_LIMIT T)
+RowNumbersArePlaces = (rules : List RuleValue) (T : List Entry)
+    → AllByRecursion (TellsItsItem (meaning (messages_under rules MESSAGE_LIMIT T))) (all_rows MESSAGE_LIMIT rules T)
 
 -- And so is the number that `messages` gives it, in the line of a message behind the messages M: whatever follows.
 abbrev pub LineNumbersArePlaces : Type 0

@@ -1,7 +1,7 @@
 -- The verdict of a report: whether the recording is clean, what needs attention, and all counts. It is known at the end,
 -- and written there; the style shows it first.
 use Rattle.std.specs.Fmt.{decimal}
-use Rattle.std.specs.Prelude.{ℕ, ◌==◌, ◌&&◌, ◌||◌, not, Bool, List, [], ◌++◌, codes, Option, if◌then◌else◌}
+use Rattle.std.specs.Prelude.{ℕ, ◌==◌, ◌&&◌, ◌||◌, not, Bool, List, [], ◌∷◌, ◌++◌, codes, Option, if◌then◌else◌}
 use Rattle.trace_text.specs.Words.{stamp_text}
 use Rattle.trace_report.specs.Causes.{cause_line}
 use Rattle.trace_report.specs.Counts.{counts_text}
@@ -14,6 +14,7 @@ use Rattle.trace_report.specs.declared.tally.Tally.{Tally}
 use Rattle.trace_log.specs.declared.fault.Fault.{Fault}
 use Rattle.trace_log.specs.declared.fault.Fault.TheVariants as fault
 use Rattle.trace_log.specs.declared.summary.Summary.{Summary}
+use Rattle.uds_rules.specs.Rule.{RuleValue}
 
 -- a text, where what it says is so
 abbrev pub clause : Bool → List ℕ → List ℕ
@@ -69,23 +70,28 @@ empty_words has_no_line =
     if has_no_line then codes " The log is empty: it has no line."
     else codes " Either no line has a frame, or other identifiers are meant: see <code>--tester</code> and <code>--unit</code>."
 
--- what it means that tester and unit look exchanged, behind what else there is to say
-abbrev pub exchanged_words : Summary → List ℕ
-exchanged_words summary =
-    clause (not (is_clean summary)) (codes " ")
-    ++ codes "No message is a request: the tester sent responses, and the unit messages that are none. See <code>--tester</code> and <code>--unit</code>."
+-- the words of a log without rules, and those of what rules leave of one
+abbrev pub words_under : List RuleValue → List ℕ → List ℕ → List ℕ
+words_under [] whole left = whole
+words_under (rule ∷ rules) whole left = left
+
+-- what it means that tester and unit look exchanged in what rules leave, behind what else there is to say
+abbrev pub exchanged_words : List RuleValue → Summary → List ℕ
+exchanged_words rules summary =
+    clause (not (is_clean summary)) (codes " ") ++ words_under rules (codes "No message is a request") (codes "Of what the rules leave, no message is a request")
+    ++ codes ": the tester sent responses, and the unit messages that are none. See <code>--tester</code> and <code>--unit</code>."
 
 -- what it means for the messages of a page that a recording is not called clean
-abbrev pub meaning_words : Summary → List ℕ
-meaning_words summary =
+abbrev pub meaning_words : List RuleValue → Summary → List ℕ
+meaning_words rules summary =
     clause (is_partial summary) (codes " Frames are missing, late, out of order or of no legal form. Messages that they belonged to are not below.")
     ++ clause (lacks_line_feed summary) (codes " The log ends inside its last line: it may be cut.")
-    ++ clause (summary.frames == 0) (empty_words (summary.lines == 0)) ++ clause summary.looks_exchanged (exchanged_words summary)
+    ++ clause (summary.frames == 0) (empty_words (summary.lines == 0)) ++ clause summary.looks_exchanged (exchanged_words rules summary)
 
 -- each reason why a log is not called clean: a frame of each side is wanted, all of what they sent, the end of the last
 -- line, and that the sides don't look exchanged
-abbrev pub unclean_reasons : Summary → List ℕ
-unclean_reasons summary = clause (not (is_clean summary)) (strict_words summary) ++ meaning_words summary
+abbrev pub unclean_reasons : List RuleValue → Summary → List ℕ
+unclean_reasons rules summary = clause (not (is_clean summary)) (strict_words summary) ++ meaning_words rules summary
 
 -- the words of the heading of a log that has no frame of the two sides, or whose sides look exchanged, or that is not clean
 abbrev pub start_words : Summary → List ℕ
@@ -100,26 +106,31 @@ abbrev pub unclean_heading : Summary → List ℕ
 unclean_heading summary = verdict_head (codes "warn") (codes "!") ++ start_words summary ++ codes "</h2>\n<p>"
 
 -- the heading of a recording that is not called clean, and each reason
-abbrev pub unclean_verdict : Summary → List ℕ
-unclean_verdict summary = unclean_heading summary ++ unclean_reasons summary
+abbrev pub unclean_verdict : List RuleValue → Summary → List ℕ
+unclean_verdict rules summary = unclean_heading summary ++ unclean_reasons rules summary
 
 -- the heading of the verdict of a log that is read to its end, and its sentences
-abbrev pub heading_text : Summary → List ℕ
-heading_text summary = if is_called_clean summary then clean_verdict else unclean_verdict summary
+abbrev pub heading_text : List RuleValue → Summary → List ℕ
+heading_text rules summary = if is_called_clean summary then clean_verdict else unclean_verdict rules summary
 
--- whether each answer is positive, where there are so many requests, negative answers, and requests without an answer
-abbrev pub answers_text : ℕ → ℕ → ℕ → List ℕ
-answers_text asked refused missing =
+-- whether each answer is positive that rules leave, where they leave so many requests, negative answers, and requests
+-- without an answer
+abbrev pub answers_text : List RuleValue → ℕ → ℕ → ℕ → List ℕ
+answers_text rules asked refused missing =
     if asked == 0 then []
-    else if refused == 0 && missing == 0 then codes " No answer is negative, and none is missing."
-    else codes " Not every request has a positive answer."
+    else if refused == 0 && missing == 0
+    then words_under rules (codes " No answer is negative, and none is missing.") (codes " Of what the rules leave, no answer is negative, and none is missing.")
+    else words_under rules (codes " Not every request has a positive answer.") (codes " Of what the rules leave, not every request has a positive answer.")
 
--- whether each answer is positive, by the counts of the rows
-abbrev pub answers_of : SortCounts → List ℕ
-answers_of counts = answers_text counts.requests counts.negatives counts.unanswered
+-- whether each answer is positive that rules leave, by the counts of the rows
+abbrev pub answers_of : List RuleValue → SortCounts → List ℕ
+answers_of rules counts = answers_text rules counts.requests counts.negatives counts.unanswered
 
--- What was found of a log: the tally of its rows, its counts, and the times of its first frame and of its last one.
+-- What was found of a log: the rules that it is under, of how many messages each spoke, the tally of its rows, its counts, and
+-- the times of its first frame and of its last one.
 pub record FindingsValue : Type 0 where
+  pub rules : List RuleValue
+  pub spoken : List ℕ
   pub tally : Tally
   pub summary : Summary
   pub first : ℕ
@@ -133,7 +144,7 @@ findings_text found =
 
 -- the verdict of a log of which this was found
 abbrev pub verdict_text : FindingsValue → List ℕ
-verdict_text found = heading_text found.summary ++ answers_of found.tally.counts ++ codes "</p>\n" ++ findings_text found
+verdict_text found = heading_text found.rules found.summary ++ answers_of found.rules found.tally.counts ++ codes "</p>\n" ++ findings_text found
 
 -- A log that is refused.
 

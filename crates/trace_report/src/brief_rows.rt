@@ -1,32 +1,35 @@
 //! The rows of messages in blocks that are folded at first: one line of words each, without a shape.
 ghost use Rattle.trace_report.specs.BriefRows.{brief_message};
 
-use crate::data::BriefData;
 use crate::message_rows::{MessageFront, say_message_row};
 use crate::message_words::After;
 use crate::roles::MessageRole;
 use crate::row::SentMessage;
 use crate::sorts::message_needs_attention;
 use crate::targets::Side;
+use shown_bytes::BriefData;
 use text_parts::{Part, say};
 use trace_io::TextSink;
 use trace_text::ServiceName;
 use uds_message::sid;
+use uds_rules::Rules;
 
-/// Says the row of a message in a block of brief rows: what needs attention has its full row there, too.
+/// Says the row of a message that rules have left in a block of brief rows: what needs attention has its full row there, too.
 pub(crate) fn say_brief_message<S: TextSink>(
+    rules: &Rules,
     origin: u64,
     sent: SentMessage,
     message: &[u8],
     out: &mut S,
 )
-    ensures { S.says out.old (brief_message origin sent.role sent.dir sent.place message.now) out.new }
+    ensures { S.says out.old (brief_message rules.now origin sent.role sent.dir sent.place message.now) out.new }
 {
     let SentMessage { role, dir, place } = sent;
     if message_needs_attention(role) {
-        say_message_row(origin, sent, message, out);
+        say_message_row(rules, origin, sent, message, out);
     } else {
         let words = BriefWords {
+            rules,
             role,
             first: place.first.micros,
             message,
@@ -53,6 +56,7 @@ pub(crate) fn say_brief_message<S: TextSink>(
 /// The words of a brief row, of a message that needs no attention.
 #[derive(Clone, Copy)]
 struct BriefWords<'a> {
+    rules: &'a Rules,
     role: MessageRole,
     first: u64,
     message: &'a [u8],
@@ -61,15 +65,16 @@ struct BriefWords<'a> {
 impl<'a> Part for BriefWords<'a> {
     ghost use Rattle.trace_report.specs.BriefRows.{brief_words};
 
-    ghost text = { λ words. brief_words words.role words.first words.message.now };
+    ghost text = { λ words. brief_words words.rules.now words.role words.first words.message.now };
 
     fn say<S: TextSink>(self, out: &mut S) {
         let BriefWords {
+            rules,
             role,
             first,
             message,
         } = self;
-        let data = BriefData(message);
+        let data = BriefData { rules, message };
         match role {
             MessageRole::Request => say(
                 out,

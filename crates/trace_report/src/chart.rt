@@ -15,6 +15,7 @@ use crate::row::{SentMessage, SessionRow};
 use crate::tally::Tally;
 use text_parts::say;
 use trace_io::TextSink;
+use uds_rules::Rules;
 
 /// The blocks of the rows that were said, and what the verdict needs of them.
 #[derive(Debug, Drop)]
@@ -34,27 +35,39 @@ impl Chart {
         }
     }
 
-    /// Says new rows, in a page whose first frame has the time `origin`.
+    /// Says new rows of what rules have left, in a page whose first frame has the time `origin`.
     #[inline(always)]
-    pub(crate) fn say_rows<S: TextSink>(&mut self, origin: u64, rows: NewRows<'_>, out: &mut S)
+    pub(crate) fn say_rows<S: TextSink>(
+        &mut self,
+        rules: &Rules,
+        origin: u64,
+        rows: NewRows<'_>,
+        out: &mut S,
+    )
         ensures stands { (before : List RowValue) → length before < 2 ^ 64 - 3 → IsChartOf before self.old → IsChartOf (before ++ rows_in rows.entry) self.new }
         ensures says { (before : List RowValue) → length before < 2 ^ 64 - 3 → IsChartOf before self.old
-            → S.says out.old (rows_text origin (blocks_of before) (rows_in rows.entry)) out.new }
+            → S.says out.old (rows_text rules.now origin (blocks_of before) (rows_in rows.entry)) out.new }
     {
-        self.say_row_if(origin, rows.first, out);
-        self.say_row_if(origin, rows.second, out);
-        self.say_row_if(origin, rows.third, out);
+        self.say_row_if(rules, origin, rows.first, out);
+        self.say_row_if(rules, origin, rows.second, out);
+        self.say_row_if(rules, origin, rows.third, out);
     }
 
     /// Says a row, if there is one.
     #[inline(always)]
-    fn say_row_if<S: TextSink>(&mut self, origin: u64, row: Option<SessionRow<'_>>, out: &mut S)
+    fn say_row_if<S: TextSink>(
+        &mut self,
+        rules: &Rules,
+        origin: u64,
+        row: Option<SessionRow<'_>>,
+        out: &mut S,
+    )
         ensures stands { (before : List RowValue) → length before < 2 ^ 64 - 1 → IsChartOf before self.old → IsChartOf (before ++ row_if row.entry) self.new }
         ensures says { (before : List RowValue) → length before < 2 ^ 64 - 1 → IsChartOf before self.old
-            → S.says out.old (rows_text origin (blocks_of before) (row_if row.entry)) out.new }
+            → S.says out.old (rows_text rules.now origin (blocks_of before) (row_if row.entry)) out.new }
     {
         if let Some(row) = row {
-            say_next_row(origin, &mut self.blocks, row, out);
+            say_next_row(rules, origin, &mut self.blocks, row, out);
             self.tally.take(row);
         }
     }
@@ -62,12 +75,13 @@ impl Chart {
 
 /// Says a row behind those before, and what begins before it.
 pub(crate) fn say_next_row<S: TextSink>(
+    rules: &Rules,
     origin: u64,
     blocks: &mut Blocks,
     row: SessionRow<'_>,
     out: &mut S,
 )
-    ensures says { blocks.old.count < 2 ^ 64 - 1 → blocks.old.rows < 2 ^ 64 - 1 → S.says out.old (rows_text origin blocks.old (row_of row.entry ∷ [])) out.new }
+    ensures says { blocks.old.count < 2 ^ 64 - 1 → blocks.old.rows < 2 ^ 64 - 1 → S.says out.old (rows_text rules.now origin blocks.old (row_of row.entry ∷ [])) out.new }
     ensures stands { blocks.old.count < 2 ^ 64 - 1 → blocks.old.rows < 2 ^ 64 - 1 → blocks.new ≡ blocks_behind blocks.old (row_of row.entry ∷ []) }
 {
     let opening = Opening {
@@ -77,32 +91,35 @@ pub(crate) fn say_next_row<S: TextSink>(
     };
     say(out, opening);
     *blocks = one_more_row(begins_exchange(row), *blocks);
-    say_row(is_brief(*blocks), origin, row, out);
+    say_row(rules, is_brief(*blocks), origin, row, out);
 }
 
 /// Says a row, in a page whose first frame has the time `origin`, in a block of brief rows or in another.
-fn say_row<S: TextSink>(brief: bool, origin: u64, row: SessionRow<'_>, out: &mut S)
-    ensures { S.says out.old (row_text brief origin (row_of row.entry)) out.new }
+fn say_row<S: TextSink>(rules: &Rules, brief: bool, origin: u64, row: SessionRow<'_>, out: &mut S)
+    ensures { S.says out.old (row_text rules.now brief origin (row_of row.entry)) out.new }
 {
     match row {
-        SessionRow::Message { sent, message } => say_message(brief, origin, sent, message, out),
+        SessionRow::Message { sent, message } => say_message(
+            rules, brief, origin, sent, message, out,
+        ),
         SessionRow::Missing(missing) => say_missing_row(true, origin, missing, out),
     }
 }
 
 /// Says the row of a message, in a block of brief rows or in another.
 fn say_message<S: TextSink>(
+    rules: &Rules,
     brief: bool,
     origin: u64,
     sent: SentMessage,
     message: &[u8],
     out: &mut S,
 )
-    ensures { S.says out.old (message_text brief origin sent.role sent.dir sent.place message.now) out.new }
+    ensures { S.says out.old (message_text rules.now brief origin sent.role sent.dir sent.place message.now) out.new }
 {
     if brief {
-        say_brief_message(origin, sent, message, out);
+        say_brief_message(rules, origin, sent, message, out);
     } else {
-        say_message_row(origin, sent, message, out);
+        say_message_row(rules, origin, sent, message, out);
     }
 }

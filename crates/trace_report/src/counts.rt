@@ -25,6 +25,7 @@ impl<'a> Part for Counts<'a> {
                     LogCount("lines", summary.lines),
                     LogCount("frames", summary.frames),
                     LogCount("messages", summary.messages),
+                    LeftOutCount(summary.left_out),
                 ),
                 (
                     SortCount(Sort::Requests, "requests", counts.requests),
@@ -69,6 +70,22 @@ impl Part for LogCount {
                 count,
             },
         );
+    }
+}
+
+/// How many messages of the log rules left out, where they left out one.
+#[derive(Clone, Copy)]
+struct LeftOutCount(u64);
+
+impl Part for LeftOutCount {
+    ghost use Rattle.trace_report.specs.Counts.{left_out_count};
+
+    ghost text = { λ count. left_out_count count.0 };
+
+    fn say<S: TextSink>(self, out: &mut S) {
+        if self.0 > 0 {
+            say(out, LogCount("left out", self.0));
+        }
     }
 }
 

@@ -6,6 +6,7 @@ ghost use Rattle.isotp_receive.specs.EventSeen.{seen_event};
 ghost use Rattle.isotp_receive.specs.StandingReception.{receptions_after};
 ghost use Rattle.isotp_receive.specs.Trace.{Entry};
 ghost use Rattle.isotp_receive.specs.Verdict.{verdict};
+ghost use Rattle.uds_rules.specs.Rule.{RuleValue};
 ghost use Rattle.trace_run.specs.Seen.{IsSeen};
 ghost use Rattle.uds_exchange.specs.Judging.{IsJudgedAfter, number_after, sent, step_after};
 ghost use Rattle.trace_canon.specs.FirstFrames.{place_of};
@@ -47,7 +48,7 @@ pub(crate) struct Follower {
 impl Follower {
     /// Before the first frame.
     pub(crate) fn start() -> Follower
-        ensures { Follows [] result }
+        ensures { (rules : List RuleValue) → Follows rules [] result }
     {
         Follower {
             waits: None,
@@ -61,8 +62,10 @@ impl Follower {
     /// then.
     #[inline(always)]
     pub(crate) fn take<'a>(&mut self, seen: Seen<'a>) -> NewRows<'a>
-        ensures next { (T : List Entry) (e : Entry) → IsSeen T e seen.entry → Follows T self.old → Follows (T ++ e ∷ []) self.new }
-        ensures rows { (T : List Entry) (e : Entry) → IsSeen T e seen.entry → Follows T self.old → rows_in result ≡ frame_rows MESSAGE_LIMIT T e }
+        ensures next { (rules : List RuleValue) (T : List Entry) (e : Entry) → IsSeen rules T e seen.entry
+            → Follows rules T self.old → Follows rules (T ++ e ∷ []) self.new }
+        ensures rows { (rules : List RuleValue) (T : List Entry) (e : Entry) → IsSeen rules T e seen.entry
+            → Follows rules T self.old → rows_in result ≡ frame_rows MESSAGE_LIMIT rules T e }
     {
         let here = here_of(seen);
         let extent = self.extents.take(here, seen.dir, seen.event);
@@ -135,7 +138,8 @@ impl Follower {
 
     /// The rows of the end of the log, where these receptions stand.
     pub(crate) fn end<'a>(&self, pair: &Pair) -> NewRows<'a>
-        ensures { (T : List Entry) → Follows T self.now → pair.now.receptions ≡ receptions_after MESSAGE_LIMIT T → rows_in result ≡ end_rows MESSAGE_LIMIT T }
+        ensures { (rules : List RuleValue) (T : List Entry) → Follows rules T self.now
+            → pair.now.receptions ≡ receptions_after MESSAGE_LIMIT T → rows_in result ≡ end_rows MESSAGE_LIMIT rules T }
     {
         NewRows {
             first: unfinished_row_of(Dir::Tester, pair.open(Dir::Tester)),

@@ -1,11 +1,14 @@
 //! The front of a report: what stands before its rows.
-use crate::log_names::Name;
+use crate::rules_style::RulesStyle;
 use can_log::Id;
+use shown_bytes::Name;
 use text_parts::{Part, say};
 use trace_io::TextSink;
 use trace_text::Identifier;
+use uds_rules::Rules;
 
-/// What a page is made for: its style, the name of the log, the identifiers, and the limit of the log.
+/// What a page is made for: its style, the name of the log, the identifiers, the limit of the log, and the rules that its
+/// messages are under.
 #[derive(Clone, Copy)]
 pub(crate) struct PageTitle<'a> {
     pub style: &'a str,
@@ -13,6 +16,7 @@ pub(crate) struct PageTitle<'a> {
     pub tester: Id,
     pub unit: Id,
     pub max_bytes: u64,
+    pub rules: &'a Rules,
 }
 
 /// What stands before the rows of a report.
@@ -62,6 +66,7 @@ impl<'a> Part for PageHead<'a> {
                 Name(title.name),
                 " - udsnorm report</title>\n<style>\n",
                 title.style,
+                RulesStyle(title.rules),
                 "</style>\n</head>\n<body>\n",
             ),
         );

@@ -7,6 +7,7 @@ ghost use Rattle.trace_canon.specs.Compared.{fault_in};
 ghost use Rattle.trace_log.specs.declared.fault.Fault.{Fault as FaultValue};
 ghost use Rattle.trace_log.specs.Devices.{AgreesWith, bytes_given, ReadFrom, HasLowCounts};
 ghost use Rattle.trace_log.specs.Refusal.{HasNoBadPlaceWithin};
+ghost use Rattle.uds_rules.specs.Rule.{RuleValue};
 ghost use Rattle.trace_report.specs.Kept.{KeepsOne, HasOwnFrame, KeepsTwo};
 ghost use Rattle.trace_report.specs.proving.Following.{row_if, rows_in};
 ghost use Rattle.trace_report.specs.Session.{session_of};
@@ -23,7 +24,10 @@ use isotp_receive::Pair;
 use std::alloc::{AllocError, Global};
 use trace_io::{Source, TextSink};
 use trace_log::{CompareFault, Config, Fault, Summary};
-use trace_run::{Glimpse, Machine, NoAnswer, Nowhere, Seen, run};
+use trace_run::{
+    Glimpse, Machine, NoAnswer, Nowhere, RuleCounts, Seen, count_message, no_counts, run,
+};
+use uds_rules::Rules;
 
 /// Reads two logs, the first one whole before the second, and answers what both say. No announcement and no canonical
 /// log is too long for it.
@@ -87,13 +91,16 @@ fn keep_session<R: Source>(
     ensures read { ReadFrom R.Source Fault.Read config.now.max_bytes result source.old source.new }
     ensures never_write { IfErr result (λ fault. fault ≢ Fault.Write) }
 {
+    let rules = config.rules();
     let machine = Keeper {
+        rules,
         times: None,
         follower: Follower::start(),
         rows: KeptRows::new(alloc),
+        spoken: no_counts(rules),
     };
     match run(alloc, config, machine, source, &mut Nowhere::new()) {
-        Ok(heard) => match finished(heard) {
+        Ok(heard) => match finished(rules, heard) {
             Ok(session) => Ok(session),
             Err(_refused) => Err(Fault::Memory),
         },
@@ -109,11 +116,14 @@ pub(crate) struct Heard {
     pub last: NewRows<'static>,
     pub summary: Summary,
     pub times: Option<Times>,
+    /// Of how many messages each rule spoke.
+    pub spoken: RuleCounts,
 }
 
-/// What a log says of which this was heard.
-fn finished(heard: Heard) -> Result<KeptSession, AllocError>
-    ensures session { IfOk result (λ session. (T : List Entry) (summary : SummaryValue) → IsHeardOf T summary heard → session ≡ session_of MESSAGE_LIMIT T summary) }
+/// What a log under rules says of which this was heard.
+fn finished(rules: &Rules, heard: Heard) -> Result<KeptSession, AllocError>
+    ensures session { IfOk result (λ session. (T : List Entry) (summary : SummaryValue)
+        → IsHeardOf rules.now T summary heard → session ≡ session_of MESSAGE_LIMIT rules.now T summary) }
     ensures refused { IfErr result (λ refused. rows_in heard.last ≢ []) }
 {
     let Heard {
@@ -121,9 +131,10 @@ fn finished(heard: Heard) -> Result<KeptSession, AllocError>
         last,
         summary,
         times,
+        spoken,
     } = heard;
     keep_rows(&mut rows, last)?;
-    Ok(KeptSession::of(rows, summary, times))
+    Ok(KeptSession::of(rules, rows, summary, times, spoken))
 }
 
 /// Keeps new rows behind those before.
@@ -149,28 +160,31 @@ fn keep_row_if(rows: &mut KeptRows, row: Option<SessionRow<'_>>) -> Result<(), A
     }
 }
 
-/// Keeps the rows of a session.
+/// Keeps the rows of a session, under these rules.
 #[derive(Drop)]
-pub(crate) struct Keeper {
+pub(crate) struct Keeper<'a> {
+    pub rules: &'a Rules,
     /// The times of the first frame so far and of the last one, if there are frames.
     pub times: Option<Times>,
     pub follower: Follower,
     pub rows: KeptRows,
+    /// Of how many messages each rule spoke.
+    pub spoken: RuleCounts,
 }
 
-impl Machine for Keeper {
+impl<'a> Machine for Keeper<'a> {
     ghost use Rattle.std.specs.Prelude.{⊤};
     ghost use Rattle.trace_report.specs.proving.Heard.{Keeps, answers_heard, quiet_script};
 
     type Answer = Heard;
 
-    ghost stands = { λ start T now. Keeps T now };
+    ghost stands = { λ rules start T now. Keeps rules T now };
 
-    ghost script = { λ start. quiet_script };
+    ghost script = { λ rules start. quiet_script };
 
-    ghost answers = { λ start. answers_heard };
+    ghost answers = { λ rules start. answers_heard rules };
 
-    ghost needs = { λ start T e. ⊤ };
+    ghost needs = { λ rules start T e. ⊤ };
 
     #[inline(always)]
     fn is_strict(&self) -> bool {
@@ -180,6 +194,7 @@ impl Machine for Keeper {
     #[inline(always)]
     fn event<S: TextSink>(&mut self, seen: Seen<'_>, _out: &mut S) -> Result<(), AllocError> {
         self.times = Some(times_with(self.times, seen.micros));
+        count_message(self.rules, seen.event.verdict, &mut self.spoken);
         let rows = self.follower.take(seen);
         keep_rows(&mut self.rows, rows)?;
         Ok(())
@@ -192,15 +207,18 @@ impl Machine for Keeper {
         _out: &mut S,
     ) -> Result<Heard, NoAnswer> {
         let Keeper {
+            rules: _,
             times,
             follower,
             rows,
+            spoken,
         } = self;
         Ok(Heard {
             rows,
             last: follower.end(pair),
             summary: *summary,
             times,
+            spoken,
         })
     }
 

@@ -1,21 +1,12 @@
 //! What holds of a page, whatever log it is of. A law is its contract; a call does nothing.
 
-ghost use Rattle.trace_report.specs.Laws.{AfterIsFromTheLastFrame, AfterIsToTheFirstFrame, IdentifiersStandOnce, ItemsAreTheMeaning, LettersAreHarmless, LinksHaveTargets, LooksAreTold, NameIsHarmless, NegativeIsNegative, StyleHoldsNoTag, TimeIsOfTheLastFrame};
+ghost use Rattle.trace_report.specs.Laws.{AfterIsFromTheLastFrame, AfterIsToTheFirstFrame, IdentifiersStandOnce, ItemsAreTheMeaning, LinksHaveTargets, LooksAreTold, NegativeIsNegative, RuledStyleHoldsNoTag, StyleHoldsNoTag, TimeIsOfTheLastFrame};
 ghost use Rattle.trace_report.specs.Numbers.{LineNumbersArePlaces, RowNumbersArePlaces};
 
-/// The name of a log opens and closes nothing on its page.
-pub fn name_is_harmless()
-    ensures { NameIsHarmless }
-{}
-
-/// The letters that are shown for bytes of a message open and close nothing on a page.
-pub fn letters_are_harmless()
-    ensures { LettersAreHarmless }
-{}
-
-/// The style of a page opens and closes no element.
+/// The style of a page opens and closes no element, and neither does what it has besides under rules.
 pub fn style_holds_no_tag()
-    ensures { StyleHoldsNoTag }
+    ensures style { StyleHoldsNoTag }
+    ensures rules { RuledStyleHoldsNoTag }
 {}
 
 /// No two identifiers of a page are the same.

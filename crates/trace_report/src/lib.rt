@@ -16,15 +16,16 @@
 //!
 //! | Part | Files | Definitions |
 //! |---|---|---|
-//! | times and bytes, as rows show them, and the names behind these | `durations`, `letters`, `data`, `standard_names` | `Durations`, `Letters`, `Data`, `StandardNames` |
+//! | times, as rows show them | `durations` | `Durations` |
 //! | what a row tells | `targets`, `roles`, `row` | `Targets`, `Roles`, `Rows` |
 //! | what is counted, and where links lead | `counting`, `sorts`, `tally` | `Sorts`, `Linked` |
 //! | the text of a row | `cells`, `message_rows`, `message_words`, `brief_rows`, `missing_rows`, `missing_words` | `Rows`, `MessageRows`, `BriefRows`, `MissingRows` |
 //! | the chart: rows one after another, in blocks that fold | `blocks`, `block_fronts`, `chart` | `Blocks`, `Chart` |
 //! | the rows of a frame, by what the frames before it were | `follower`, `extents`, `frames`, `times` | `Events` |
+//! | the rules that a page is under | `rule_words`, `rules_style` | `RuleWords`, `RulesStyle` |
 //! | the verdict of a log | `verdict_head`, `verdict`, `links`, `counts`, `reasons` | `Links`, `Counts`, `Verdict` |
 //! | why a log is refused | `looks`, `first_bytes`, `cause`, `refusal` | `Looks`, `Causes`, `Verdict` |
-//! | what stands before the rows and behind them | `style`, `log_names`, `front`, `help` | `Style`, `LogNames`, `Front`, `Help` |
+//! | what stands before the rows and behind them | `style`, `front`, `help` | `Style`, `Front`, `Help` |
 //! | [`report`] | `reporter` | `Page` |
 //! | the items of a session, by its rows | `kept_rows`, `item_places`, `items` | `Items` |
 //! | [`keep_two`], [`KeptSession`], [`KeptSessions`] | `keeper`, `session`, `sessions` | `Session`, `Kept` |
@@ -40,7 +41,6 @@ mod cells;
 mod chart;
 mod counting;
 mod counts;
-mod data;
 mod durations;
 mod extents;
 mod first_bytes;
@@ -54,9 +54,7 @@ mod items;
 mod keeper;
 mod kept_rows;
 pub mod laws;
-mod letters;
 mod links;
-mod log_names;
 mod looks;
 mod message_rows;
 mod message_words;
@@ -67,10 +65,11 @@ mod refusal;
 mod reporter;
 mod roles;
 mod row;
+mod rule_words;
+mod rules_style;
 mod session;
 mod sessions;
 mod sorts;
-mod standard_names;
 mod style;
 mod tally;
 mod targets;
@@ -82,15 +81,12 @@ pub use blocks::begins_exchange;
 pub use cause::{CauseLine, RefusalCause, RefusalCauseText, cause_of};
 pub use cells::{CellEnd, CellFront};
 pub use counts::Counts;
-pub use data::{BytesApart, Data, MoreWords};
 pub use durations::Seconds;
 pub use front::{Identifiers, PageStart, Shapes};
 pub use help::{HelpHeading, Legend, Limits, Tail};
 pub use items::{PlacedItem, RowMessage};
 pub use keeper::keep_two;
 pub use kept_rows::KeptRows;
-pub use letters::{has_word, shown_byte};
-pub use log_names::Name;
 pub use looks::Look;
 pub use message_rows::{MessageFront, NamedLines};
 pub use message_words::{FurtherNote, Note, RoleWords};
@@ -101,9 +97,10 @@ pub use refusal::Refusal;
 pub use reporter::report;
 pub use roles::{MessageRole, asked_at, begins_item, is_answer_role, is_request_role};
 pub use row::{Arrow, MessagePlace, Missing, SentMessage, SessionRow};
+pub use rule_words::{RulesEnd, RulesStart, RulesWord};
+pub use rules_style::RulesStyle;
 pub use session::KeptSession;
 pub use sessions::KeptSessions;
-pub use standard_names::PageCode;
 pub use style::report_style;
 pub use tally::SortCounts;
 pub use verdict::{SpanOf, is_called_clean};

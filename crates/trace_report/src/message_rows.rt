@@ -4,24 +4,26 @@ ghost use Rattle.trace_report.specs.MessageRows.{message_row};
 ghost use Rattle.trace_report.specs.Roles.{begins_item};
 
 use crate::cells::{CellEnd, CellFront, RowFront};
-use crate::data::Data;
 use crate::durations::Seconds;
 use crate::message_words::{Note, RoleWords};
 use crate::roles::{MessageRole, begins_item};
 use crate::row::{Arrow, MessagePlace, SentMessage};
 use crate::targets::{LinkTarget, target_if};
+use shown_bytes::{Data, known_length};
 use text_parts::{Either, Part, say};
 use trace_io::TextSink;
 use trace_text::Number;
+use uds_rules::Rules;
 
-/// Says the row of a message, in a page whose first frame has the time `origin`.
+/// Says the row of a message that rules have left, in a page whose first frame has the time `origin`.
 pub(crate) fn say_message_row<S: TextSink>(
+    rules: &Rules,
     origin: u64,
     sent: SentMessage,
     message: &[u8],
     out: &mut S,
 )
-    ensures { S.says out.old (message_row origin sent.role sent.dir sent.place message.now) out.new }
+    ensures { S.says out.old (message_row rules.now origin sent.role sent.dir sent.place message.now) out.new }
 {
     let SentMessage { role, dir, place } = sent;
     say(
@@ -35,8 +37,8 @@ pub(crate) fn say_message_row<S: TextSink>(
             },
             CellFront(dir),
             RoleWords(role, dir, message),
-            Data(message),
-            Note(role, place, message.len() as u64),
+            Data { rules, message },
+            Note(role, place, known_length(rules, message)),
             CellEnd(dir, Arrow::Headed),
         ),
     );

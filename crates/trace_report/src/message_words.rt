@@ -3,8 +3,8 @@
 use crate::durations::Milliseconds;
 use crate::roles::{MessageRole, asked_at};
 use crate::row::MessagePlace;
-use crate::standard_names::PageCode;
 use direction::Dir;
+use shown_bytes::PageCode;
 use text_parts::{Part, say};
 use trace_io::TextSink;
 use trace_text::{Number, Sender, ServiceName};
@@ -42,10 +42,10 @@ impl<'a> Part for RoleWords<'a> {
     }
 }
 
-/// The note on a message of so many bytes: how many frames carry them, and how long after its request the first of them
-/// came, if it replies to one.
+/// The note on a message of so many bytes, where it is known how many it has: how many frames carry them, and how long after
+/// its request the first of them came, if it replies to one.
 #[derive(Clone, Copy)]
-pub struct Note(pub MessageRole, pub MessagePlace, pub u64);
+pub struct Note(pub MessageRole, pub MessagePlace, pub Option<u64>);
 
 impl Part for Note {
     ghost use Rattle.trace_report.specs.MessageRows.{note_text};
@@ -61,8 +61,8 @@ impl Part for Note {
                 out,
                 (
                     "<br><i>",
-                    Number(count),
-                    " bytes in ",
+                    CarriedWords(count),
+                    "in ",
                     Number(place.frames),
                     " frames",
                     FurtherNote(asked, first),
@@ -71,6 +71,22 @@ impl Part for Note {
             );
         } else if let Some(asked) = asked {
             say(out, (" <i>", After(asked, first), "</i>"));
+        }
+    }
+}
+
+/// How many bytes several frames carry, where that is known.
+#[derive(Clone, Copy)]
+struct CarriedWords(Option<u64>);
+
+impl Part for CarriedWords {
+    ghost use Rattle.trace_report.specs.MessageRows.{carried_words};
+
+    ghost text = { λ words. carried_words words.0 };
+
+    fn say<S: TextSink>(self, out: &mut S) {
+        if let Some(count) = self.0 {
+            say(out, (Number(count), " bytes "));
         }
     }
 }

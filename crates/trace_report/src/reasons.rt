@@ -6,24 +6,25 @@ use text_parts::{Either, Part, When, say};
 use trace_io::TextSink;
 use trace_log::Summary;
 use trace_text::Number;
+use uds_rules::Rules;
 
 /// Each reason why a recording is not called clean: of one that is not clean what `--strict` tells of it; and what that means for
-/// the messages.
+/// the messages, by the rules that these are under.
 #[derive(Clone, Copy)]
-pub struct UncleanReasons<'a>(pub &'a Summary);
+pub struct UncleanReasons<'a>(pub &'a Rules, pub &'a Summary);
 
 impl<'a> Part for UncleanReasons<'a> {
     ghost use Rattle.trace_report.specs.Verdict.{unclean_reasons};
 
-    ghost text = { λ reasons. unclean_reasons reasons.0.now };
+    ghost text = { λ reasons. unclean_reasons reasons.0.now reasons.1.now };
 
     fn say<S: TextSink>(self, out: &mut S) {
-        let summary = self.0;
+        let UncleanReasons(rules, summary) = self;
         say(
             out,
             (
                 When(!summary.is_clean(), StrictWords(summary)),
-                MeaningWords(summary),
+                MeaningWords(rules, summary),
             ),
         );
     }
@@ -66,15 +67,15 @@ impl<'a> Part for StrictWords<'a> {
 
 /// What it means for the messages of a page that a recording is not called clean.
 #[derive(Clone, Copy)]
-struct MeaningWords<'a>(&'a Summary);
+struct MeaningWords<'a>(&'a Rules, &'a Summary);
 
 impl<'a> Part for MeaningWords<'a> {
     ghost use Rattle.trace_report.specs.Verdict.{meaning_words};
 
-    ghost text = { λ words. meaning_words words.0.now };
+    ghost text = { λ words. meaning_words words.0.now words.1.now };
 
     fn say<S: TextSink>(self, out: &mut S) {
-        let summary = self.0;
+        let MeaningWords(rules, summary) = self;
         say(
             out,
             (
@@ -98,11 +99,39 @@ impl<'a> Part for MeaningWords<'a> {
                     summary.looks_exchanged,
                     (
                         When(!summary.is_clean(), " "),
-                        "No message is a request: the tester sent responses, and the unit messages that are none. See <code>--tester</code> and <code>--unit</code>.",
+                        WordsUnder {
+                            rules,
+                            whole: "No message is a request",
+                            left: "Of what the rules leave, no message is a request",
+                        },
+                        ": the tester sent responses, and the unit messages that are none. See <code>--tester</code> and <code>--unit</code>.",
                     ),
                 ),
             ),
         );
+    }
+}
+
+/// The words of a log without rules, and those of what rules leave of one.
+#[derive(Clone, Copy)]
+pub(crate) struct WordsUnder<'a> {
+    pub rules: &'a Rules,
+    pub whole: &'static str,
+    pub left: &'static str,
+}
+
+impl<'a> Part for WordsUnder<'a> {
+    ghost use Rattle.trace_report.specs.Verdict.{words_under};
+
+    ghost text = { λ words. words_under words.rules.now words.whole.now words.left.now };
+
+    fn say<S: TextSink>(self, out: &mut S) {
+        let WordsUnder { rules, whole, left } = self;
+        if rules.is_empty() {
+            say(out, whole);
+        } else {
+            say(out, left);
+        }
     }
 }
 

@@ -19,6 +19,7 @@ use crate::follower::Follower;
 use crate::front::{Front, PageTitle};
 use crate::help::Help;
 use crate::refusal::StopLine;
+use crate::rule_words::RulesSection;
 use crate::times::{Times, first_of, times_with};
 use crate::verdict::{Findings, RefusedVerdict, VerdictSection};
 use isotp_receive::Pair;
@@ -26,10 +27,12 @@ use std::alloc::{AllocError, Global};
 use text_parts::{Part, say};
 use trace_io::{Source, Target, TextSink};
 use trace_log::{Config, Fault, Summary};
-use trace_run::{Glimpse, Machine, NoAnswer, Seen, run_lenient};
+use trace_run::{
+    Glimpse, Machine, NoAnswer, RuleCounts, Seen, count_message, no_counts, run_lenient,
+};
 
-/// Reads a log and writes its session as a page of HTML, with this style and the name of the log: each row as its frame comes, and
-/// at the end the verdict, which the style shows first.
+/// Reads a log and writes its session as a page of HTML, with this style and the name of the log: each row as its frame comes, of
+/// what the rules leave of its message, and at the end the rules and the verdict, which the style shows first.
 ///
 /// The target is not flushed.
 pub fn report<R: Source, W: Target>(
@@ -45,11 +48,12 @@ pub fn report<R: Source, W: Target>(
 
     // What is answered and written; that it is written before more is read; and what was done with the devices.
     ensures ran { RanLenient R.Source W.Target
-        (command (report_script (page_title style.now name.now config.now) MESSAGE_LIMIT)
-        (refused_text (page_title style.now name.now config.now) MESSAGE_LIMIT (glimpse_of R.Source source.new))
+        (command (report_script (page_title style.now name.now config.now) MESSAGE_LIMIT config.now.rules)
+        (refused_text (page_title style.now name.now config.now) MESSAGE_LIMIT config.now.rules (glimpse_of R.Source source.new))
         answers_counts needs_none)
         config.now source.old target.old result source.new target.new }
 {
+    let rules = config.rules();
     let machine = Reporter {
         title: PageTitle {
             style,
@@ -57,10 +61,12 @@ pub fn report<R: Source, W: Target>(
             tester: config.tester(),
             unit: config.unit(),
             max_bytes: config.max_bytes(),
+            rules,
         },
         times: None,
         follower: Follower::start(),
         chart: Chart::start(),
+        spoken: no_counts(rules),
     };
     run_lenient(alloc, config, machine, source, target)
 }
@@ -73,6 +79,8 @@ pub(crate) struct Reporter<'a> {
     pub times: Option<Times>,
     pub follower: Follower,
     pub chart: Chart,
+    /// Of how many messages each rule spoke.
+    pub spoken: RuleCounts,
 }
 
 impl<'a> Machine for Reporter<'a> {
@@ -84,15 +92,15 @@ impl<'a> Machine for Reporter<'a> {
 
     type Answer = Summary;
 
-    ghost stands = { λ start T now. Reports (title_of start.title) T now };
+    ghost stands = { λ rules start T now. Reports rules (title_of start.title) T now };
 
-    ghost script = { λ start. report_script (title_of start.title) MESSAGE_LIMIT };
+    ghost script = { λ rules start. report_script (title_of start.title) MESSAGE_LIMIT rules };
 
-    ghost refusal = { λ start. refused_text (title_of start.title) MESSAGE_LIMIT };
+    ghost refusal = { λ rules start. refused_text (title_of start.title) MESSAGE_LIMIT rules };
 
-    ghost answers = { λ start. answers_counts };
+    ghost answers = { λ rules start. answers_counts };
 
-    ghost needs = { λ start T e. ⊥ };
+    ghost needs = { λ rules start T e. ⊥ };
 
     #[inline(always)]
     fn is_strict(&self) -> bool {
@@ -104,8 +112,10 @@ impl<'a> Machine for Reporter<'a> {
         say_front_before(&self.title, self.times, out);
         let times = times_with(self.times, seen.micros);
         self.times = Some(times);
+        let rules = self.title.rules;
+        count_message(rules, seen.event.verdict, &mut self.spoken);
         let rows = self.follower.take(seen);
-        self.chart.say_rows(times.first, rows, out);
+        self.chart.say_rows(rules, times.first, rows, out);
         Ok(())
     }
 
@@ -120,12 +130,15 @@ impl<'a> Machine for Reporter<'a> {
             times,
             follower,
             mut chart,
+            spoken,
         } = self;
         say_front_before(&title, times, out);
-        chart.say_rows(first_of(times), follower.end(pair), out);
+        chart.say_rows(title.rules, first_of(times), follower.end(pair), out);
         let closing = PageEnd {
             blocks: chart.blocks,
             found: Findings {
+                rules: title.rules,
+                spoken: spoken.as_slice(),
                 tally: &chart.tally,
                 summary,
                 times,
@@ -147,6 +160,7 @@ impl<'a> Machine for Reporter<'a> {
             times,
             follower: _,
             chart,
+            spoken,
         } = self;
         say_front_before(&title, times, out);
         let closing = RefusedEnd {
@@ -154,6 +168,8 @@ impl<'a> Machine for Reporter<'a> {
             cause: cause_of(why, title.max_bytes, glimpse),
             blocks: chart.blocks,
             found: Findings {
+                rules: title.rules,
+                spoken: spoken.as_slice(),
                 tally: &chart.tally,
                 summary,
                 times,
@@ -191,6 +207,7 @@ impl<'a> Part for PageEnd<'a> {
             (
                 BlockEnd(self.blocks.count),
                 "</main>\n",
+                RulesSection(self.found.rules, self.found.spoken),
                 VerdictSection(self.found),
                 Help,
             ),
@@ -225,6 +242,7 @@ impl<'a> Part for RefusedEnd<'a> {
                 BlockEnd(self.blocks.count),
                 StopLine(self.why),
                 "</main>\n",
+                RulesSection(self.found.rules, self.found.spoken),
                 verdict,
                 Help,
             ),

@@ -6,13 +6,18 @@ use crate::kept_rows::KeptRows;
 use crate::times::{Times, first_of, last_of};
 use std::marker::Model;
 use trace_log::Summary;
+use trace_run::RuleCounts;
+use uds_rules::Rules;
 
-/// What a log says, kept. Contracts see its rows, its counts, and the times of its first frame and its last one.
+/// What a log says, kept. Contracts see its rows, its counts, the times of its first frame and its last one, the rules that it is
+/// under, and of how many of its messages each spoke.
 #[derive(Debug, Drop)]
 pub struct KeptSession {
     rows: KeptRows,
     summary: Summary,
     times: Option<Times>,
+    rules: Rules,
+    spoken: RuleCounts,
 }
 
 impl Model for KeptSession {
@@ -21,21 +26,39 @@ impl Model for KeptSession {
 
     ghost Value = { SessionValue };
 
-    ghost view = { λ s. record { rows = s.rows; summary = s.summary; first = first_of_times s.times; last = last_of_times s.times } };
+    ghost view = { λ s. record {
+      rows = s.rows;
+      summary = s.summary;
+      first = first_of_times s.times;
+      last = last_of_times s.times;
+      rules = s.rules;
+      spoken = s.spoken.items;
+    } };
 }
 
 impl KeptSession {
-    /// What is kept of a log: its rows, its counts, and the times of its first frame and its last one, if it has frames.
-    pub(crate) fn of(rows: KeptRows, summary: Summary, times: Option<Times>) -> KeptSession
+    /// What is kept of a log under these rules: its rows, its counts, the times of its first frame and its last one, if it has
+    /// frames, and of how many messages each rule spoke.
+    pub(crate) fn of(
+        rules: &Rules,
+        rows: KeptRows,
+        summary: Summary,
+        times: Option<Times>,
+        spoken: RuleCounts,
+    ) -> KeptSession
         ensures rows { result.rows ≡ rows }
         ensures summary { result.summary ≡ summary }
         ensures first { result.first ≡ first_of_times times }
         ensures last { result.last ≡ last_of_times times }
+        ensures rules { result.rules ≡ rules.now }
+        ensures spoken { result.spoken ≡ spoken.items }
     {
         KeptSession {
             rows,
             summary,
             times,
+            rules: *rules,
+            spoken,
         }
     }
 
@@ -65,5 +88,19 @@ impl KeptSession {
         ensures { result ≡ self.now.last }
     {
         last_of(self.times)
+    }
+
+    /// The rules that it is under.
+    pub fn rules(&self) -> &Rules
+        ensures { result.now ≡ self.now.rules }
+    {
+        &self.rules
+    }
+
+    /// Of how many of its messages each rule spoke, in the order of the rules.
+    pub fn spoken(&self) -> &[u64]
+        ensures { result.now ≡ self.now.spoken }
+    {
+        self.spoken.as_slice()
     }
 }

@@ -7,7 +7,7 @@ use crate::cause::RefusalCause;
 use crate::counts::Counts;
 use crate::durations::Seconds;
 use crate::links::Attention;
-use crate::reasons::UncleanReasons;
+use crate::reasons::{UncleanReasons, WordsUnder};
 use crate::refusal::RefusedHeading;
 use crate::tally::{SortCounts, Tally};
 use crate::times::{Times, first_of, last_of};
@@ -16,10 +16,14 @@ use text_parts::{Either, Part, say};
 use trace_io::TextSink;
 use trace_log::{Fault, Summary};
 use trace_text::Stamp;
+use uds_rules::Rules;
 
-/// What was found of a log: the tally of its rows, its counts, and the times of its first frame and its last one.
+/// What was found of a log: the rules that it is under, of how many messages each spoke, the tally of its rows, its counts, and
+/// the times of its first frame and its last one.
 #[derive(Clone, Copy)]
 pub(crate) struct Findings<'a> {
+    pub rules: &'a Rules,
+    pub spoken: &'a [u64],
     pub tally: &'a Tally,
     pub summary: &'a Summary,
     pub times: Option<Times>,
@@ -40,8 +44,8 @@ impl<'a> Part for VerdictSection<'a> {
         say(
             out,
             (
-                Heading(found.summary),
-                AnswersOf(&found.tally.counts),
+                Heading(found.rules, found.summary),
+                AnswersOf(found.rules, &found.tally.counts),
                 "</p>\n",
                 found,
             ),
@@ -79,6 +83,7 @@ impl<'a> Part for Findings<'a> {
             tally,
             summary,
             times,
+            ..
         } = self;
         say(
             out,
@@ -98,15 +103,15 @@ impl<'a> Part for Findings<'a> {
 
 /// The heading of a log that is read to its end, and its sentence.
 #[derive(Clone, Copy)]
-struct Heading<'a>(&'a Summary);
+struct Heading<'a>(&'a Rules, &'a Summary);
 
 impl<'a> Part for Heading<'a> {
     ghost use Rattle.trace_report.specs.Verdict.{heading_text};
 
-    ghost text = { λ heading. heading_text heading.0.now };
+    ghost text = { λ heading. heading_text heading.0.now heading.1.now };
 
     fn say<S: TextSink>(self, out: &mut S) {
-        let summary = self.0;
+        let Heading(rules, summary) = self;
         if is_called_clean(summary) {
             say(
                 out,
@@ -117,7 +122,10 @@ impl<'a> Part for Heading<'a> {
                 ),
             );
         } else {
-            say(out, (UncleanHeading(summary), UncleanReasons(summary)));
+            say(
+                out,
+                (UncleanHeading(summary), UncleanReasons(rules, summary)),
+            );
         }
     }
 }
@@ -177,24 +185,38 @@ impl<'a> Part for StartWords<'a> {
     }
 }
 
-/// Whether each answer is positive, where something was asked.
+/// Whether each answer is positive that rules leave, where they leave something that was asked.
 #[derive(Clone, Copy)]
-struct AnswersOf<'a>(&'a SortCounts);
+struct AnswersOf<'a>(&'a Rules, &'a SortCounts);
 
 impl<'a> Part for AnswersOf<'a> {
     ghost use Rattle.trace_report.specs.Verdict.{answers_of};
 
-    ghost text = { λ answers. answers_of answers.0.now };
+    ghost text = { λ answers. answers_of answers.0.now answers.1.now };
 
     fn say<S: TextSink>(self, out: &mut S) {
-        let counts = self.0;
+        let AnswersOf(rules, counts) = self;
         if counts.requests == 0 {
             return;
         }
         if counts.negatives == 0 && counts.unanswered == 0 {
-            say(out, " No answer is negative, and none is missing.");
+            say(
+                out,
+                WordsUnder {
+                    rules,
+                    whole: " No answer is negative, and none is missing.",
+                    left: " Of what the rules leave, no answer is negative, and none is missing.",
+                },
+            );
         } else {
-            say(out, " Not every request has a positive answer.");
+            say(
+                out,
+                WordsUnder {
+                    rules,
+                    whole: " Not every request has a positive answer.",
+                    left: " Of what the rules leave, not every request has a positive answer.",
+                },
+            );
         }
     }
 }

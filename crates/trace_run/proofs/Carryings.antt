@@ -1,11 +1,11 @@
--- What is carried since a start: nothing at first, then a text more, and all of it once nothing is left on the page.
+-- What is carried since a start: nothing at first, then a text more, and all of it once nothing is left on the sheet.
 use Rattle.std.proofs.Common.{◌≡◌, ◌<◌, ◌≤◌, ◌^◌, Bool, true, false, List, [], ◌∷◌, ◌++◌, ℕ, length, arith, refl, ap, sym}
 use Rattle.std.proofs.Common.{subst, ◌∙◌, append-nil, append_assoc, length-append}
 use Rattle.trace_io.proofs.Promises.{took_no_byte}
 use Rattle.trace_io.specs.Written.{HasFront}
 use Rattle.trace_io.specs.declared.device.Target.{Ghosts}
-use Rattle.trace_run.specs.declared.page.Page.{Page}
-use Rattle.trace_run.specs.proving.Carrying.{Carries, HasCarried, blank_page}
+use Rattle.trace_run.specs.declared.sheet.Sheet.{Sheet}
+use Rattle.trace_run.specs.proving.Carrying.{Carries, HasCarried, blank_sheet}
 use Rattle.trace_run.proofs.WrittenFronts.{written_all, front_longer}
 
 -- a text that was said, and found room behind what is gathered
@@ -24,16 +24,16 @@ some_more : (said text gathered : List ℕ) → (0 < length gathered → 0 < len
 some_more said text [] is some = omega (arith, length-append said text)
 some_more said text (byte ∷ gathered) is some = omega (arith, is (omega arith), length-append said text)
 
--- a page with nothing on it is blank
-pub is_blank : (page : Page) → page.failed ≡ false → page.gathered ≡ [] → blank_page false ≡ page
-is_blank page well blank = λ i. record { gathered = sym blank i; failed = sym well i }
+-- a sheet with nothing on it is blank
+pub is_blank : (sheet : Sheet) → sheet.failed ≡ false → sheet.gathered ≡ [] → blank_sheet false ≡ sheet
+is_blank sheet well blank = λ i. record { gathered = sym blank i; failed = sym well i }
 
 module _ {W : Type 0} (target : Ghosts W) where
-  -- nothing was said to a page with nothing on it
-  pub carries_at_start : (start : W) (page : Page) → target.failures start ≤ 2 ^ 62 → page.failed ≡ false → page.gathered ≡ []
-      → Carries target start [] page start
-  carries_at_start start page low well blank =
-      subst (λ p. Carries target start [] p start) (is_blank page well blank) (record {
+  -- nothing was said to a sheet with nothing on it
+  pub carries_at_start : (start : W) (sheet : Sheet) → target.failures start ≤ 2 ^ 62 → sheet.failed ≡ false → sheet.gathered ≡ []
+      → Carries target start [] sheet start
+  carries_at_start start sheet low well blank =
+      subst (λ p. Carries target start [] p start) (is_blank sheet well blank) (record {
         low = low;
         gathered_some = λ some. absurd (omega arith);
         failed_some = λ is. absurd (cc is);
@@ -46,42 +46,42 @@ module _ {W : Type 0} (target : Ghosts W) where
       })
 
   -- what was said was written
-  pub wrote_all : (start now : W) (said : List ℕ) → Carries target start said (blank_page false) now
+  pub wrote_all : (start now : W) (said : List ℕ) → Carries target start said (blank_sheet false) now
       → target.taken now ≡ target.taken start ++ said
   wrote_all start now said carries = written_all (target.taken start) said (target.taken now) [] carries.written refl
 
   -- a front of what was said was written, whether writing failed or not
-  pub wrote_front : (start now : W) (said : List ℕ) (failed : Bool) → Carries target start said (blank_page failed) now
+  pub wrote_front : (start now : W) (said : List ℕ) (failed : Bool) → Carries target start said (blank_sheet failed) now
       → HasFront (target.taken start) said (target.taken now)
   wrote_front start now said true carries = carries.written
   wrote_front start now said false carries =
       record { front = said; rest = []; parts = sym (append-nil said); wrote = wrote_all start now said carries }
 
   -- a text more was said, and is gathered behind what was
-  pub gathered_more : (start now : W) (said text : List ℕ) (page : Page) (gathered_now : List ℕ) → gathered_now ≡ page.gathered ++ text
-      → Carries target start said page now
-      → Carries target start (said ++ text) (record page { gathered = gathered_now }) now
-  gathered_more start now said text page gathered_now is so_far =
-      subst (λ gathered. Carries target start (said ++ text) (record page { gathered = gathered }) now) (sym is) (record {
+  pub gathered_more : (start now : W) (said text : List ℕ) (sheet : Sheet) (gathered_now : List ℕ) → gathered_now ≡ sheet.gathered ++ text
+      → Carries target start said sheet now
+      → Carries target start (said ++ text) (record sheet { gathered = gathered_now }) now
+  gathered_more start now said text sheet gathered_now is so_far =
+      subst (λ gathered. Carries target start (said ++ text) (record sheet { gathered = gathered }) now) (sym is) (record {
         low = so_far.low;
-        gathered_some = some_more said text page.gathered so_far.gathered_some;
+        gathered_some = some_more said text sheet.gathered so_far.gathered_some;
         failed_some = λ has. omega (arith, so_far.failed_some has, length-append said text);
         still = λ none. so_far.still (omega (arith, none, length-append said text));
         failures = so_far.failures;
         no_empty_write = so_far.no_empty_write;
         flushes = so_far.flushes;
         took = so_far.took;
-        written = carried_more page.failed (target.taken start) said text page.gathered (target.taken now) so_far.written;
+        written = carried_more sheet.failed (target.taken start) said text sheet.gathered (target.taken now) so_far.written;
       })
 
   -- a text more was said, and nothing of it is gathered, where writing had failed
-  pub said_in_vain : (start now : W) (said text : List ℕ) (page : Page) → page.failed ≡ true
-      → Carries target start said page now
-      → Carries target start (said ++ text) page now
-  said_in_vain start now said text page wrong carries =
-      let so_far : Carries target start said (record page { failed = true }) now =
-      subst (λ b. Carries target start said (record page { failed = b }) now) wrong carries in
-      subst (λ b. Carries target start (said ++ text) (record page { failed = b }) now) (sym wrong) (record {
+  pub said_in_vain : (start now : W) (said text : List ℕ) (sheet : Sheet) → sheet.failed ≡ true
+      → Carries target start said sheet now
+      → Carries target start (said ++ text) sheet now
+  said_in_vain start now said text sheet wrong carries =
+      let so_far : Carries target start said (record sheet { failed = true }) now =
+      subst (λ b. Carries target start said (record sheet { failed = b }) now) wrong carries in
+      subst (λ b. Carries target start (said ++ text) (record sheet { failed = b }) now) (sym wrong) (record {
         low = so_far.low;
         gathered_some = λ some. omega (arith, so_far.gathered_some some, length-append said text);
         failed_some = λ is. omega (arith, so_far.failed_some refl, length-append said text);
@@ -94,11 +94,11 @@ module _ {W : Type 0} (target : Ghosts W) where
       })
 
   -- what is gathered is let go, where writing had failed
-  pub let_go : (start now : W) (said : List ℕ) (page : Page) → page.failed ≡ true → Carries target start said page now
-      → Carries target start said (blank_page true) now
-  let_go start now said page wrong carries =
-      let so_far : Carries target start said (record page { failed = true }) now =
-      subst (λ b. Carries target start said (record page { failed = b }) now) wrong carries in
+  pub let_go : (start now : W) (said : List ℕ) (sheet : Sheet) → sheet.failed ≡ true → Carries target start said sheet now
+      → Carries target start said (blank_sheet true) now
+  let_go start now said sheet wrong carries =
+      let so_far : Carries target start said (record sheet { failed = true }) now =
+      subst (λ b. Carries target start said (record sheet { failed = b }) now) wrong carries in
       record {
         low = so_far.low;
         gathered_some = λ some. absurd (omega arith);

@@ -15,14 +15,16 @@ use Rattle.trace_log.specs.declared.fault.Fault.{Fault}
 use Rattle.trace_log.specs.declared.fault.Fault.TheVariants as fault
 use Rattle.trace_log.specs.declared.summary.Summary.{Summary}
 use Rattle.trace_log.proofs.Promises.{writes_front_of_all}
-use Rattle.trace_run.specs.Ran.{AnswersAndWrites, EndsWith, command_of, passing}
+use Rattle.trace_run.specs.Stopping.{passing}
+use Rattle.trace_run.specs.AnswersAndWrites.{AnswersAndWrites, EndsWith}
+use Rattle.trace_run.specs.Ran.{command_of}
 use Rattle.trace_run.specs.Script.{GlimpseValue, Script}
 use Rattle.trace_run.specs.declared.machine.Machine.{Ghosts as MachineGhosts}
 use Rattle.trace_run.specs.declared.machine.NoAnswer.{NoAnswer}
 use Rattle.trace_run.specs.declared.machine.NoAnswer.TheVariants as no_answer
-use Rattle.trace_run.specs.declared.page.Page.{Page}
+use Rattle.trace_run.specs.declared.sheet.Sheet.{Sheet}
 use Rattle.trace_run.specs.declared.telling.Telling.{Telling}
-use Rattle.trace_run.specs.proving.Carrying.{Carries, Says, Settles, blank_page}
+use Rattle.trace_run.specs.proving.Carrying.{Carries, Says, Settles, blank_sheet}
 use Rattle.trace_run.specs.proving.Ending.{EndsAnswering, EndsSaying, whole_since}
 use Rattle.trace_run.specs.proving.Telling.{AreWithin, HasTold, Start, said_since}
 use Rattle.trace_run.proofs.Carryings.{wrote_all, wrote_front}
@@ -34,20 +36,20 @@ module _ {A M W : Type 0} (machine : MachineGhosts M A) (target : TargetGhosts W
   -- what it answers at the end of the log
   pub answers_at_the_end : (glimpse : GlimpseValue) (given : ℕ) (result : Result A Fault) (new : W)
       → length log ≤ settings.max_bytes
-      → given ≡ length log → LogMeans log meanings → AreWithin machine start.machine (trace settings meanings)
+      → given ≡ length log → LogMeans log meanings → AreWithin machine start.rules start.machine (trace settings meanings)
       → EndsSaying machine target start settings log meanings result new
-      → AnswersAndWrites (command_of machine glimpse start.machine) MESSAGE_LIMIT settings log given result
+      → AnswersAndWrites (command_of machine glimpse start.rules start.machine) MESSAGE_LIMIT settings log given result
       (target.taken start.target) (target.taken new)
   answers_at_the_end glimpse given result new short all means within = by result
     where
       script : Script
-      script = machine.script start.machine
+      script = machine.script start.rules start.machine
 
       each : EachPasses (passing script.strict MESSAGE_LIMIT settings) meanings
       each = all_pass script.strict settings meanings within
 
       with_answer : (reply : Result A NoAnswer) → EndsAnswering machine target start settings log meanings reply new
-          → EndsWith (command_of machine glimpse start.machine) MESSAGE_LIMIT settings log given reply
+          → EndsWith (command_of machine glimpse start.rules start.machine) MESSAGE_LIMIT settings log given reply
           (target.taken start.target) (target.taken new)
       with_answer reply ends = (
         omega (arith, all),
@@ -58,7 +60,7 @@ module _ {A M W : Type 0} (machine : MachineGhosts M A) (target : TargetGhosts W
       )
 
       by : (result : Result A Fault) → EndsSaying machine target start settings log meanings result new
-          → AnswersAndWrites (command_of machine glimpse start.machine) MESSAGE_LIMIT settings log given result
+          → AnswersAndWrites (command_of machine glimpse start.rules start.machine) MESSAGE_LIMIT settings log given result
           (target.taken start.target) (target.taken new)
       by (Ok value) ends = with_answer (Ok value) ends
       by (Err fault.OutputLimit) ends = with_answer (Err no_answer.OutputLimit) ends
@@ -114,18 +116,18 @@ module _ {A M W : Type 0} (machine : MachineGhosts M A) (target : TargetGhosts W
   neither_read_nor_memory (Err (fault.BadLine line column)) new ends = absurd ends
   neither_read_nor_memory (Err (fault.Oversize line announced)) new ends = absurd ends
 
-  -- all that is said at the end is carried to the page and settled, or that failed
-  pub carried_at_the_end : (telling : Telling M) (page_then : Page) (old mid new : W) (settled : Bool) (summary : Summary)
+  -- all that is said at the end is carried to the sheet and settled, or that failed
+  pub carried_at_the_end : (telling : Telling M) (sheet_then : Sheet) (old mid new : W) (settled : Bool) (summary : Summary)
       → HasTold machine target start (trace settings meanings) telling old
       → summary ≡ summary_of MESSAGE_LIMIT settings log meanings
-      → Says target telling.page old ((machine.script start.machine).at_the_end (trace settings meanings) summary) page_then mid
-      → Settles target page_then mid settled new
-      → Carries target start.target (whole_since machine target start settings log meanings) (blank_page (not settled)) new
-  carried_at_the_end telling page_then old mid new settled summary so_far is speaks settles =
+      → Says target telling.sheet old ((machine.script start.rules start.machine).at_the_end (trace settings meanings) summary) sheet_then mid
+      → Settles target sheet_then mid settled new
+      → Carries target start.target (whole_since machine target start settings log meanings) (blank_sheet (not settled)) new
+  carried_at_the_end telling sheet_then old mid new settled summary so_far is speaks settles =
       let T = trace settings meanings in
-      let said = said_since machine start.machine T in
-      let last = (machine.script start.machine).at_the_end T in
-      subst (λ s. Carries target start.target (said ++ last s) (blank_page (not settled)) new) is
+      let said = said_since machine start.rules start.machine T in
+      let last = (machine.script start.rules start.machine).at_the_end T in
+      subst (λ s. Carries target start.target (said ++ last s) (blank_sheet (not settled)) new) is
       (settles start.target (said ++ last summary) (speaks start.target said so_far.carried))
 
 -- there is one reason for no answer at the end

@@ -3,14 +3,14 @@ use Rattle.std.proofs.Common.{◌≡◌, ◌≢◌, ◌⊎◌, ℕ, Bool, true, 
 use Rattle.isotp_receive.specs.declared.TheConstants.{MESSAGE_LIMIT}
 use Rattle.trace_io.specs.declared.device.Target.{Ghosts as TargetGhosts}
 use Rattle.trace_log.specs.Feeding.{WroteBefore}
-use Rattle.trace_log.specs.Needing.{HasFrame, IsKeptForMessage}
+use Rattle.trace_log.specs.Needing.{HasFrame, IsKeptOrMasked}
 use Rattle.trace_log.specs.declared.fault.Fault.{Fault}
 use Rattle.trace_log.specs.declared.fault.Fault.TheVariants as fault
 use Rattle.trace_log.proofs.Promises.{Begins}
-use Rattle.trace_run.specs.Ran.{WritesSaidEagerly}
+use Rattle.trace_run.specs.AnswersAndWrites.{WritesSaidEagerly}
 use Rattle.trace_run.specs.Script.{GlimpseValue}
 use Rattle.trace_run.specs.declared.machine.Machine.{Ghosts as MachineGhosts}
-use Rattle.trace_run.specs.proving.Carrying.{Carries, WritesOn, blank_page}
+use Rattle.trace_run.specs.proving.Carrying.{Carries, WritesOn, blank_sheet}
 use Rattle.trace_run.specs.proving.Ending.{EndsAs, GivesUp}
 use Rattle.trace_run.specs.proving.Receiving.{RunState, of_pairs, IsSureOf}
 use Rattle.trace_run.proofs.BrokenRuns.{answers_failed_read, answers_failed_write}
@@ -25,7 +25,7 @@ use Rattle.trace_run.proofs.SaidFronts.{more_at_fault, only_more, writes_said_ea
 pub record EndsCarrying {W : Type 0} (target : TargetGhosts W) (old : W) (why answer : Fault) (new : W) : Type 0 where
   pub said : List ℕ
   pub failed : Bool
-  pub carried : Carries target old said (blank_page failed) new
+  pub carried : Carries target old said (blank_sheet failed) new
   pub writing : FollowsWriting failed answer
   pub reading : FollowsRead why answer
 
@@ -35,7 +35,7 @@ module _ {A M W : Type 0} {machine : MachineGhosts M A} {target : TargetGhosts W
   pub eagerly : (log : List ℕ) (given : ℕ)
       → WroteBefore (of_pairs (IsSureOf machine target)) (begun.state.receiver, begun.state.target) log given
       (now.receiver, now.target)
-      → (new : W) → WritesOn target now.receiver.telling.page now.target new
+      → (new : W) → WritesOn target now.receiver.telling.sheet now.target new
       → WritesSaidEagerly (script begun) MESSAGE_LIMIT begun.settings log given (old begun) (target.taken new)
   eagerly log given before new more =
       let wrote = before.written begun.settings begun.machine_start begun.is in
@@ -47,7 +47,7 @@ module _ {A M W : Type 0} {machine : MachineGhosts M A} {target : TargetGhosts W
     -- only more is written
     pub ends_behind : (why : Fault) → FedSome machine target begun.state (Err why) now
         → GivesUp machine target glimpse why now.receiver now.target answer new
-        → WritesOn target now.receiver.telling.page now.target new
+        → WritesOn target now.receiver.telling.sheet now.target new
     ends_behind (fault.BadLine line column) (meanings, taken) up mid said carries =
         more_at_fault (fault.BadLine line column) answer mid _ new
         (settles_refusal begun now glimpse answer new (fault.BadLine line column) meanings taken up mid said carries)
@@ -104,7 +104,7 @@ module _ {A M W : Type 0} {machine : MachineGhosts M A} {target : TargetGhosts W
       said = text begun meanings;
       failed = false;
       carried =
-          subst (λ w. Carries target begun.state.target (text begun meanings) (blank_page false) w) (sym up.1)
+          subst (λ w. Carries target begun.state.target (text begun meanings) (blank_sheet false) w) (sym up.1)
           (taken begun.settings begun.machine_start begun.is).1.carried;
       writing = subst (λ f. f ≢ fault.Write) (sym up.0) (λ is. absurd (cc is));
       reading = up.0;
@@ -113,7 +113,7 @@ module _ {A M W : Type 0} {machine : MachineGhosts M A} {target : TargetGhosts W
       said = text begun meanings;
       failed = true;
       carried =
-          subst (λ w. Carries target begun.state.target (text begun meanings) (blank_page true) w) (sym up.1)
+          subst (λ w. Carries target begun.state.target (text begun meanings) (blank_sheet true) w) (sym up.1)
           (taken begun.settings begun.machine_start begun.is).1.carried;
       writing = up.0;
       reading = subst (λ f. f ≢ fault.Read) (sym up.0) (λ is. absurd (cc is));
@@ -145,7 +145,8 @@ module _ {A M W : Type 0} {machine : MachineGhosts M A} {target : TargetGhosts W
       pub memory_was_needed : (why : Fault)
           → Fed machine target begun.state begun.settings.max_bytes log given (Err why) now
           → GivesUp machine target glimpse why now.receiver now.target answer new → answer ≡ fault.Memory
-          → HasFrame (λ T e. IsKeptForMessage MESSAGE_LIMIT T e ⊎ machine.needs begun.machine_start T e) begun.settings log
+          → HasFrame (λ T e. IsKeptOrMasked MESSAGE_LIMIT begun.settings.rules T e
+          ⊎ machine.needs begun.settings.rules begun.machine_start T e) begun.settings log
       memory_was_needed (fault.BadLine line column) (meanings, taken, place) up refused =
           absurd (apart_from_memory (fault.BadLine line column) _ (λ same. absurd (cc same))
           (refuses_all begun now glimpse answer new (fault.BadLine line column) meanings taken up) refused)

@@ -4,11 +4,12 @@ use Rattle.std.specs.Result.{IfOk, IfErr}
 use Rattle.isotp_receive.specs.declared.TheConstants.{MESSAGE_LIMIT}
 use Rattle.isotp_receive.specs.Trace.{Entry}
 use Rattle.trace_log.specs.Laws.{Certifies}
-use Rattle.trace_log.specs.Needing.{HasFrame, IsKeptForMessage, NeedsMemoryToReceive}
+use Rattle.trace_log.specs.Needing.{HasFrame, IsKeptOrMasked, NeedsMemoryToReceive}
 use Rattle.trace_log.specs.Settings.{Settings}
 use Rattle.trace_log.specs.Summing.{summary_of}
 use Rattle.trace_run.specs.Script.{Command}
-use Rattle.trace_run.specs.Ran.{AnswersAndWrites, CantBeRead, IsReadToEnd, IsUnreadFor, StopsNothingWithin}
+use Rattle.trace_run.specs.Stopping.{CantBeRead, IsReadToEnd, IsUnreadFor, StopsNothingWithin}
+use Rattle.trace_run.specs.AnswersAndWrites.{AnswersAndWrites}
 use Rattle.trace_log.specs.ReadAs.{IsReadAs}
 use Rattle.trace_log.specs.Answers.{ReadsWhile}
 use Rattle.trace_log.specs.Refusal.{HasNoBadPlaceWithin}
@@ -73,15 +74,15 @@ pub near_when_lenient : {strict : Bool} → strict ≡ false → (settings : Set
 near_when_lenient {strict} is settings log {given} {before} {after} near =
     subst (λ (s : Bool). ReadsWhile (StopsNothingWithin s MESSAGE_LIMIT settings log) given before after) is near
 
--- a frame that needed memory is kept, where the command needs none to tell it
+-- a frame that needed memory is kept, or its message masked, where the command needs none to tell it
 pub needs_when_none : (needs : List Entry → Entry → Type 0) → ((T : List Entry) (e : Entry) → needs T e → ⊥)
     → (settings : Settings) (log : List ℕ)
-    → HasFrame (λ T e. IsKeptForMessage MESSAGE_LIMIT T e ⊎ needs T e) settings log
+    → HasFrame (λ T e. IsKeptOrMasked MESSAGE_LIMIT settings.rules T e ⊎ needs T e) settings log
     → NeedsMemoryToReceive MESSAGE_LIMIT settings log
 needs_when_none needs none settings log found =
     record { before = found.before; line = found.line; frame = found.frame; begins = found.begins; own = found.own; holds = kept found.holds }
   where
-    kept : IsKeptForMessage MESSAGE_LIMIT (trace settings found.before) found.frame ⊎ needs (trace settings found.before) found.frame
-        → IsKeptForMessage MESSAGE_LIMIT (trace settings found.before) found.frame
+    kept : IsKeptOrMasked MESSAGE_LIMIT settings.rules (trace settings found.before) found.frame ⊎ needs (trace settings found.before) found.frame
+        → IsKeptOrMasked MESSAGE_LIMIT settings.rules (trace settings found.before) found.frame
     kept (inl holds) = holds
     kept (inr needed) = absurd (none _ _ needed)

@@ -16,5 +16,7 @@ pub mod EndedRuns
 pub mod LenientRuns
 pub mod Printings
 mod QuietRuns
+mod CountedRules
+mod SpokenCounts
 -- what the crates above may cite
 pub mod Promises

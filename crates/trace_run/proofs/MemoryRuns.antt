@@ -9,17 +9,17 @@ use Rattle.trace_io.specs.Written.{HasFront}
 use Rattle.trace_io.specs.declared.device.Target.{Ghosts as TargetGhosts}
 use Rattle.trace_log.specs.Feeding.{StopsWithin}
 use Rattle.trace_log.specs.LinesRead.{counts_last}
-use Rattle.trace_log.specs.Needing.{HasFrame, IsKeptForMessage}
+use Rattle.trace_log.specs.Needing.{HasFrame, IsKeptOrMasked}
 use Rattle.trace_log.specs.Trace.{trace}
 use Rattle.trace_log.specs.declared.fault.Fault.{Fault}
 use Rattle.trace_log.specs.declared.fault.Fault.TheVariants as fault
 use Rattle.trace_log.specs.proving.Announcing.{AnnouncesWithin}
 use Rattle.trace_log.specs.proving.Receiving.{entry_in}
 use Rattle.trace_log.proofs.Promises.{HaveCome, each_more, has_frame, have_come, trace_next}
-use Rattle.trace_run.specs.Ran.{HasSomeToSay, WritesFrontOfSaid}
+use Rattle.trace_run.specs.AnswersAndWrites.{HasSomeToSay, WritesFrontOfSaid}
 use Rattle.trace_run.specs.Script.{GlimpseValue, said_of_frames}
 use Rattle.trace_run.specs.declared.machine.Machine.{Ghosts as MachineGhosts}
-use Rattle.trace_run.specs.proving.Carrying.{Carries, blank_page}
+use Rattle.trace_run.specs.proving.Carrying.{Carries, blank_sheet}
 use Rattle.trace_run.specs.proving.Ending.{SettlesAs}
 use Rattle.trace_run.specs.proving.Receiving.{RunState, HasStoppedAt}
 use Rattle.trace_run.proofs.Carryings.{wrote_front}
@@ -60,7 +60,7 @@ module _ {A M W : Type 0} {machine : MachineGhosts M A} {target : TargetGhosts W
 
     -- so a front of what is said of them was written
     writes_front : (failed : Bool) (why : Fault) (new : W) → counts_last why ≡ true
-        → Carries target begun.state.target (text begun meanings) (blank_page failed) new
+        → Carries target begun.state.target (text begun meanings) (blank_sheet failed) new
         → WritesFrontOfSaid (script begun) MESSAGE_LIMIT begun.settings log given why (old begun) (target.taken new)
     writes_front failed why new last carries =
         let more = goes_on in
@@ -80,7 +80,7 @@ module _ {A M W : Type 0} {machine : MachineGhosts M A} {target : TargetGhosts W
   -- a front of what is said was written, or writing failed
   pub answers_memory : (glimpse : GlimpseValue) (answer : Fault) (new : W)
       → Fed machine target begun.state begun.settings.max_bytes log given (Err fault.Memory) now
-      → SettlesAs target fault.Memory now.receiver.telling.page now.target answer new
+      → SettlesAs target fault.Memory now.receiver.telling.sheet now.target answer new
       → Answers begun glimpse log given new answer
   answers_memory glimpse answer new (meanings, what, stops, place) settles =
       let carried = (stops begun.settings begun.machine_start begun.is).stopped.carried in
@@ -96,8 +96,10 @@ module _ {A M W : Type 0} {machine : MachineGhosts M A} {target : TargetGhosts W
 
   -- the frame at which it was refused needed it
   pub frame_needed : Fed machine target begun.state begun.settings.max_bytes log given (Err fault.Memory) now
-      → HasFrame (λ T e. IsKeptForMessage MESSAGE_LIMIT T e ⊎ machine.needs begun.machine_start T e) begun.settings log
+      → HasFrame (λ T e. IsKeptOrMasked MESSAGE_LIMIT begun.settings.rules T e
+      ⊎ machine.needs begun.settings.rules begun.machine_start T e) begun.settings log
   frame_needed (meanings, what, stops, place) =
       let at = stops begun.settings begun.machine_start begun.is in
-      has_frame (λ T e. IsKeptForMessage MESSAGE_LIMIT T e ⊎ machine.needs begun.machine_start T e) begun.settings log given
+      let rules = begun.settings.rules in
+      has_frame (λ T e. IsKeptOrMasked MESSAGE_LIMIT rules T e ⊎ machine.needs rules begun.machine_start T e) begun.settings log given
       meanings what at.stamped at.dir place at.means at.direction at.stopped.reason.1

@@ -7,7 +7,8 @@ use Rattle.trace_log.specs.LinesRead.{AreLinesRead}
 use Rattle.trace_log.specs.declared.fault.Fault.{Fault}
 use Rattle.trace_log.specs.declared.fault.Fault.TheVariants as fault
 use Rattle.trace_log.proofs.Promises.{each_within, line_announces, oversize_stops, read_before_oversize}
-use Rattle.trace_run.specs.Ran.{IsUnreadFor, command_of, passing}
+use Rattle.trace_run.specs.Stopping.{IsUnreadFor, passing}
+use Rattle.trace_run.specs.Ran.{command_of}
 use Rattle.trace_run.specs.Script.{GlimpseValue}
 use Rattle.trace_run.specs.declared.machine.Machine.{Ghosts as MachineGhosts}
 use Rattle.trace_run.specs.proving.Ending.{SettlesAs}
@@ -22,7 +23,7 @@ module _ {A M W : Type 0} {machine : MachineGhosts M A} {target : TargetGhosts W
   -- what is said of the lines before is written, or a front of it, where writing failed
   pub answers_oversize : (line announced : ℕ)
       → Fed machine target begun.state begun.settings.max_bytes log given (Err (fault.Oversize line announced)) now
-      → SettlesAs target (fault.Oversize line announced) now.receiver.telling.page now.target answer new
+      → SettlesAs target (fault.Oversize line announced) now.receiver.telling.sheet now.target answer new
       → Answers begun glimpse log given new answer
   answers_oversize line announced (meanings, what, stops, place) settles =
       let settings = begun.settings in
@@ -33,7 +34,8 @@ module _ {A M W : Type 0} {machine : MachineGhosts M A} {target : TargetGhosts W
       (each_within settings meanings (at.stopped.within strict))
       (line_announces settings what at.stamped at.dir (Some announced) at.means at.direction at.stopped.reason.2) in
       let count = min given settings.max_bytes in
-      let read : AreLinesRead (passing (machine.script begun.machine_start).strict MESSAGE_LIMIT settings) true count log meanings =
+      let read : AreLinesRead (passing (machine.script settings.rules begun.machine_start).strict MESSAGE_LIMIT settings) true count log
+      meanings =
       subst (λ b. AreLinesRead (passing b MESSAGE_LIMIT settings) true count log meanings) (sym strict)
       (read_before_oversize MESSAGE_LIMIT settings true count log line announced meanings found.0 found.2 found.1) in
       elim (settles begun.state.target (text begun meanings) at.stopped.carried) [
@@ -42,7 +44,7 @@ module _ {A M W : Type 0} {machine : MachineGhosts M A} {target : TargetGhosts W
           record { meanings = meanings; read = read; wrote = wrote_all target begun.state.target new (text begun meanings) well.1 },
         )
         | inr wrong ↦ subst (Answers begun glimpse log given new) (sym wrong.0)
-            (front_of_read (command_of machine glimpse begun.machine_start) MESSAGE_LIMIT settings log given
+            (front_of_read (command_of machine glimpse begun.settings.rules begun.machine_start) MESSAGE_LIMIT settings log given
             (fault.Oversize line announced) meanings (old begun) (target.taken new)
             (record { meanings = meanings; read = read; wrote = refl })
             (wrote_front target begun.state.target new (text begun meanings) true wrong.1) (wrong.1.failed_some refl))

@@ -1,25 +1,25 @@
--- What was said to a page that is then settled was printed.
+-- What was said to a sheet that is then settled was printed.
 use Rattle.std.proofs.Common.{◌≡◌, ◌≤◌, ◌^◌, ℕ, Bool, true, false, List, [], Ok, Err, refl}
 use Rattle.std.specs.Prelude.{not}
 use Rattle.trace_io.specs.declared.device.Target.{Ghosts}
-use Rattle.trace_run.specs.declared.page.Page.{Page}
+use Rattle.trace_run.specs.declared.sheet.Sheet.{Sheet}
 use Rattle.trace_log.specs.declared.fault.Fault.TheVariants.{Write}
 use Rattle.trace_run.specs.Printed.{Prints}
-use Rattle.trace_run.specs.proving.Carrying.{Carries, Says, Settles, blank_page}
+use Rattle.trace_run.specs.proving.Carrying.{Carries, Says, Settles, blank_sheet}
 use Rattle.trace_run.proofs.Carryings.{carries_at_start, wrote_all, wrote_front}
 use Rattle.trace_run.proofs.DeviceFaults.{wrote_to}
 
 module _ {W : Type 0} (target : Ghosts W) (text : List ℕ) (old new : W) where
-  -- said to a page that was blank, and settled
-  pub settled_text : (mid : W) (page page_then : Page) (settled : Bool) → target.failures old ≤ 2 ^ 62 → page.failed ≡ false
-      → page.gathered ≡ []
-      → Says target page old text page_then mid → Settles target page_then mid settled new
-      → Carries target old text (blank_page (not settled)) new
-  settled_text mid page page_then settled low well blank speaks settles =
-      settles old text (speaks old [] (carries_at_start target old page low well blank))
+  -- said to a sheet that was blank, and settled
+  pub settled_text : (mid : W) (sheet sheet_then : Sheet) (settled : Bool) → target.failures old ≤ 2 ^ 62 → sheet.failed ≡ false
+      → sheet.gathered ≡ []
+      → Says target sheet old text sheet_then mid → Settles target sheet_then mid settled new
+      → Carries target old text (blank_sheet (not settled)) new
+  settled_text mid sheet sheet_then settled low well blank speaks settles =
+      settles old text (speaks old [] (carries_at_start target old sheet low well blank))
 
   -- all of it was written
-  pub printed : Carries target old text (blank_page false) new → Prints {A = Unit {0}} target text old (Ok (tt {0})) new
+  pub printed : Carries target old text (blank_sheet false) new → Prints {A = Unit {0}} target text old (Ok (tt {0})) new
   printed carries = record {
     written = wrote_all target old new text carries;
     wrote = wrote_to target old new (Ok (tt {0})) text false carries
@@ -29,7 +29,7 @@ module _ {W : Type 0} (target : Ghosts W) (text : List ℕ) (old new : W) where
   }
 
   -- a front of it was written, and that failed
-  pub printed_front : Carries target old text (blank_page true) new → Prints {A = Unit {0}} target text old (Err Write) new
+  pub printed_front : Carries target old text (blank_sheet true) new → Prints {A = Unit {0}} target text old (Err Write) new
   printed_front carries = record {
     written = wrote_front target old new text true carries;
     wrote = wrote_to target old new (Err Write) text true carries

@@ -8,7 +8,7 @@ use Rattle.trace_log.specs.declared.fault.Fault.TheVariants.{BadLine, Oversize, 
 use Rattle.trace_log.specs.Settings.{Settings}
 use Rattle.trace_log.specs.Summing.{summary_of}
 use Rattle.trace_run.specs.Script.{Script, Answering, Needing, command, says_no_refusal, said_after}
-use Rattle.trace_run.specs.Ran.{AnswersAndWrites}
+use Rattle.trace_run.specs.AnswersAndWrites.{AnswersAndWrites}
 use Rattle.trace_log.specs.Trace.{trace}
 
 -- A script that says nothing.

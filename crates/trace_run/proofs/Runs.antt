@@ -11,7 +11,9 @@ use Rattle.trace_log.specs.Settings.{Settings}
 use Rattle.trace_log.specs.Trace.{trace, trace_from}
 use Rattle.trace_log.specs.declared.fault.Fault.{Fault}
 use Rattle.trace_log.specs.proving.Receiving.{IsReceiverStart}
-use Rattle.trace_run.specs.Ran.{AnswersAndWrites, command_of, passing}
+use Rattle.trace_run.specs.Stopping.{passing}
+use Rattle.trace_run.specs.AnswersAndWrites.{AnswersAndWrites}
+use Rattle.trace_run.specs.Ran.{command_of}
 use Rattle.trace_run.specs.Script.{GlimpseValue, Script, said_of_lines}
 use Rattle.trace_run.specs.declared.machine.Machine.{Ghosts as MachineGhosts}
 use Rattle.trace_run.specs.declared.receiver.Receiver.{Receiver}
@@ -33,12 +35,12 @@ module _ {A M W : Type 0} (machine : MachineGhosts M A) (target : TargetGhosts W
   -- a run begins with a receiver of the settings, over a telling that has told nothing
   pub begins_with : (settings : Settings) (machine_start : M) (telling : Telling M) (receiver : Receiver M W) (now : W)
       → IsReceiverStart settings telling receiver.config receiver.pair receiver.lines receiver.counts receiver.telling
-      → HasToldNothing machine machine_start telling → target.failures now ≤ 2 ^ 62
+      → HasToldNothing machine settings.rules machine_start telling → target.failures now ≤ 2 ^ 62
       → IsRunStart machine target settings machine_start (record { receiver = receiver; target = now })
   begins_with settings machine_start telling receiver now starts fresh low = record {
     config = starts.config_is;
     nothing = starts.nothing;
-    fresh = subst (HasToldNothing machine machine_start) (sym starts.taker_is) fresh;
+    fresh = subst (HasToldNothing machine settings.rules machine_start) (sym starts.taker_is) fresh;
     low = low;
   }
 
@@ -56,10 +58,10 @@ module _ {A M W : Type 0} (machine : MachineGhosts M A) (target : TargetGhosts W
       };
     },
     record {
-      judged = begun.fresh.judged;
-      machine_stands = subst (machine.stands machine_start []) (sym begun.fresh.machine_is) begun.fresh.stands_at_start;
+      judged = record { judged = begun.fresh.judged; counted = begun.fresh.none_left_out };
+      machine_stands = subst (machine.stands settings.rules machine_start []) (sym begun.fresh.machine_is) begun.fresh.stands_at_start;
       within = λ strict. tt;
-      carried = carries_at_start target start.target start.receiver.telling.page begun.low begun.fresh.well begun.fresh.blank;
+      carried = carries_at_start target start.target start.receiver.telling.sheet begun.low begun.fresh.well begun.fresh.blank;
     },
   )
 
@@ -71,7 +73,7 @@ module _ {A M W : Type 0} (machine : MachineGhosts M A) (target : TargetGhosts W
     mid = start.target;
     said = [];
     wrote = sym (append-nil (target.taken start.target));
-    carried = carries_at_start target start.target start.receiver.telling.page begun.low begun.fresh.well begun.fresh.blank;
+    carried = carries_at_start target start.target start.receiver.telling.sheet begun.low begun.fresh.well begun.fresh.blank;
   }
 
   -- what feeding a log leaves of a run, within `most` bytes
@@ -92,15 +94,15 @@ module _ {A M W : Type 0} (machine : MachineGhosts M A) (target : TargetGhosts W
 module _ {A M W : Type 0} {machine : MachineGhosts M A} {target : TargetGhosts W} (begun : Begun machine target) where
   -- what its machine says
   abbrev pub script : Script
-  script = machine.script begun.machine_start
+  script = machine.script begun.settings.rules begun.machine_start
 
   -- what is said of the frames of lines
   abbrev pub text : List (Option Stamped) → List ℕ
-  text = said_of_lines (machine.script begun.machine_start) begun.settings
+  text = said_of_lines (machine.script begun.settings.rules begun.machine_start) begun.settings
 
   -- the test that each line passes that does not stop it
   abbrev pub passes : Option Stamped → Bool
-  passes = passing (machine.script begun.machine_start).strict MESSAGE_LIMIT begun.settings
+  passes = passing (machine.script begun.settings.rules begun.machine_start).strict MESSAGE_LIMIT begun.settings
 
   -- what was written before it
   abbrev pub old : List ℕ
@@ -109,10 +111,10 @@ module _ {A M W : Type 0} {machine : MachineGhosts M A} {target : TargetGhosts W
   -- it answers this fault, and has written what it then writes, where this is seen of its source
   abbrev pub Answers : GlimpseValue → List ℕ → ℕ → W → Fault → Type 0
   Answers glimpse log given new answer =
-      AnswersAndWrites (command_of machine glimpse begun.machine_start) MESSAGE_LIMIT begun.settings log given (Err answer)
+      AnswersAndWrites (command_of machine glimpse begun.settings.rules begun.machine_start) MESSAGE_LIMIT begun.settings log given (Err answer)
       old (target.taken new)
 
   -- lines pass of which no frame announces a message above the limit
-  pub each_passes : (meanings : List (Option Stamped)) → AreWithin machine begun.machine_start (trace begun.settings meanings)
+  pub each_passes : (meanings : List (Option Stamped)) → AreWithin machine begun.settings.rules begun.machine_start (trace begun.settings meanings)
       → EachPasses passes meanings
-  each_passes meanings within = all_pass (machine.script begun.machine_start).strict begun.settings meanings within
+  each_passes meanings within = all_pass (machine.script begun.settings.rules begun.machine_start).strict begun.settings meanings within

@@ -9,14 +9,15 @@ use Rattle.trace_io.specs.Written.{HasFront}
 use Rattle.trace_io.specs.declared.device.Target.{Ghosts}
 use Rattle.trace_log.specs.declared.fault.Fault.{Fault}
 use Rattle.trace_log.specs.declared.fault.Fault.TheVariants as fault
-use Rattle.trace_run.specs.declared.page.Page.{Page}
+use Rattle.trace_run.specs.declared.sheet.Sheet.{Sheet}
 use Rattle.trace_run.specs.proving.Carrying.{Carries}
 use Rattle.trace_run.specs.proving.Ending.{EndsAs}
 use Rattle.trace_log.specs.LinesRead.{counts_last, AreGiven, AreLinesRead, AreReadBefore, WritesTextOfRead}
 use Rattle.trace_log.specs.Settings.{Settings}
 use Rattle.trace_log.specs.Summing.{summary_of}
 use Rattle.trace_run.specs.Script.{Command, Script, said_after, said_of_frames, said_of_lines, refusal_of_lines, said_and_refusal_of_lines}
-use Rattle.trace_run.specs.Ran.{WritesFrontOfSaid, HasSomeToSay, FailsToWrite, passing, IsUnreadFor, WritesFrontOfWhole, is_told, WritesSaidEagerly}
+use Rattle.trace_run.specs.Stopping.{passing, IsUnreadFor, is_told}
+use Rattle.trace_run.specs.AnswersAndWrites.{WritesFrontOfSaid, HasSomeToSay, FailsToWrite, WritesFrontOfWhole, WritesSaidEagerly}
 use Rattle.trace_log.specs.Trace.{trace, trace_from}
 use Rattle.std.specs.List.{AllByRecursion}
 use Rattle.can_log.specs.Scanning.{Standing}
@@ -152,8 +153,8 @@ module _ {A : Type 0} (of : Command A) (limit : ℕ) (settings : Settings) (log 
 -- ---- only more is written
 
 -- what was written before stays
-pub only_more : {W : Type 0} {target : Ghosts W} {start now : W} {said : List ℕ} {page : Page}
-    → Carries target start said page now
+pub only_more : {W : Type 0} {target : Ghosts W} {start now : W} {said : List ℕ} {sheet : Sheet}
+    → Carries target start said sheet now
     → Begins (target.taken start) (target.taken now)
 only_more carries = (carries.took.bytes, carries.took.grown)
 

@@ -9,7 +9,7 @@ use Rattle.trace_log.specs.declared.fault.Fault.TheVariants as fault
 use Rattle.trace_run.specs.proving.Telling.{oversize_for}
 use Rattle.trace_log.specs.Feeding.{Took, TakesFront}
 use Rattle.trace_log.specs.Settings.{Settings}
-use Rattle.trace_run.specs.Ran.{passing, IsReadToEnd, IsUnreadFor, StopsNothingWithin}
+use Rattle.trace_run.specs.Stopping.{passing, IsReadToEnd, IsUnreadFor, StopsNothingWithin}
 use Rattle.trace_log.specs.Trace.{trace}
 use Rattle.std.specs.List.{AllByRecursion}
 use Rattle.can_log.specs.Scanning.{Standing}

@@ -1,5 +1,8 @@
 pub mod Script
-pub mod Ran
 pub mod Seen
+pub mod Stopping
+pub mod AnswersAndWrites
+pub mod Ran
+pub mod Spoken
 pub mod Printed
 pub mod proving

@@ -1,4 +1,5 @@
--- What a machine is handed of a frame: what it did after the frames before it, and what becomes of its message.
+-- What a machine is handed of a frame: what it did after the frames before it, and what becomes of its message under
+-- rules.
 use Rattle.std.specs.Prelude.{◌≡◌, ℕ, ◌^◌, ◌<◌, List, [], ◌∷◌, length, Option, Some, None}
 use Rattle.direction.specs.Dir.{Message}
 use Rattle.direction.specs.declared.Dir.{Dir}
@@ -6,9 +7,12 @@ use Rattle.isotp_receive.specs.declared.TheConstants.{MESSAGE_LIMIT}
 use Rattle.isotp_receive.specs.declared.event.Event.{Event}
 use Rattle.isotp_receive.specs.EventSeen.{seen_event}
 use Rattle.isotp_receive.specs.Trace.{Entry}
-use Rattle.isotp_receive.specs.Verdict.{messages, told_message, verdict}
+use Rattle.isotp_receive.specs.Verdict.{told_message, verdict}
+use Rattle.trace_log.specs.Messages.{messages_under}
 use Rattle.uds_exchange.specs.Judging.{IsJudgedAfter, number_after, sent}
 use Rattle.uds_exchange.specs.declared.judge.Judged.{Judged}
+use Rattle.uds_rules.specs.Rule.{RuleValue}
+use Rattle.uds_rules.specs.Under.{under}
 use Rattle.trace_run.specs.declared.machine.Seen.{Seen}
 
 -- This is what the frame e, of this line, time and direction, did after the frames T, of which there are fewer than
@@ -26,9 +30,10 @@ IsJudgmentOf M came None = came ≡ []
 IsJudgmentOf M came (Some judged) =
     (came ≡ sent judged ∷ []) × IsJudgedAfter M judged × (judged.item_number ≡ number_after M (sent judged))
 
--- This is seen of the frame e after the frames T: what it did, and the message that it completed, if it completed one,
--- as it is judged behind those before.
-pub record IsSeen (T : List Entry) (e : Entry) (seen : Seen) : Type 0 where
+-- This is seen of the frame e after the frames T: what it did, which rules don't change, and what rules leave of the
+-- message that it completed, if it completed one, as that is judged behind those before.
+pub record IsSeen (rules : List RuleValue) (T : List Entry) (e : Entry) (seen : Seen) : Type 0 where
   pub event : IsEventOf T e seen.line seen.micros seen.dir seen.event
   pub message :
-      IsJudgmentOf (messages MESSAGE_LIMIT T) (told_message seen.dir (seen_event seen.event).verdict) seen.message
+      IsJudgmentOf (messages_under rules MESSAGE_LIMIT T) (under rules (told_message seen.dir (seen_event seen.event).verdict))
+      seen.message

@@ -10,8 +10,8 @@ ghost use Rattle.trace_run.specs.declared.machine.NoAnswer.TheVariants.{OutputLi
 ghost use Rattle.trace_run.specs.proving.Ending.{EndsBehind, EndsRun, GivesUp, RefusesSaying, SettlesAs};
 
 use crate::machine::{Glimpse, Machine};
-use crate::page::Page;
 use crate::receiver::Receiver;
+use crate::sheet::Sheet;
 use crate::telling::{Telling, tell_end, tell_refusal};
 use isotp_receive::Pair;
 use std::alloc::Global;
@@ -28,15 +28,15 @@ pub fn run<M: Machine + Drop, R: Source, W: Target>(
     source: &mut R,
     target: &mut W,
 ) -> Result<M::Answer, Fault>
-    requires machine { M.stands machine [] machine }
+    requires machine { M.stands config.now.rules machine [] machine }
     requires source { HasLowCounts R.Source source.old }
     requires target { IsLowCount (W.failures target.old) }
     ensures ran { Ran R.Source W.Target
-        (command_of M.Machine (glimpse_of R.Source source.new) machine)
+        (command_of M.Machine (glimpse_of R.Source source.new) config.now.rules machine)
         config.now source.old target.old result source.new target.new }
 {
     let pair = Pair::new(alloc);
-    let mut receiver = Receiver::start(config, pair, Telling::start(machine));
+    let mut receiver = Receiver::start(config, pair, Telling::start(alloc, machine));
     match feed_lines(config.max_bytes(), source, &mut receiver, target) {
         Ok(ends_in_line_feed) => finish(receiver, ends_in_line_feed, target),
         Err(fault) => Err(give_up(fault, Glimpse::of(source), receiver, target)),
@@ -51,20 +51,21 @@ pub fn run_lenient<M: Machine + Drop, R: Source, W: Target>(
     source: &mut R,
     target: &mut W,
 ) -> Result<M::Answer, Fault>
-    requires machine { M.stands machine [] machine }
-    requires lenient { (M.script machine).strict ≡ false }
-    requires has_answer { (T : List Entry) (summary : SummaryValue) → M.answers machine T summary (Err OutputLimit) → ⊥ }
+    requires machine { M.stands config.now.rules machine [] machine }
+    requires lenient { (M.script config.now.rules machine).strict ≡ false }
+    requires has_answer { (T : List Entry) (summary : SummaryValue)
+        → M.answers config.now.rules machine T summary (Err OutputLimit) → ⊥ }
     requires source { HasLowCounts R.Source source.old }
     requires target { IsLowCount (W.failures target.old) }
     ensures ran { RanLenient R.Source W.Target
-        (command_of M.Machine (glimpse_of R.Source source.new) machine)
+        (command_of M.Machine (glimpse_of R.Source source.new) config.now.rules machine)
         config.now source.old target.old result source.new target.new }
 {
     run(alloc, config, machine, source, target)
 }
 
-/// Ends a run on a fault, and answers the fault to report, this one or that of writing: the machine is told of a line or
-/// a limit that refuses the log, and what was said is written. A fault of a device stands as it is, and nothing is
+/// Ends a run on a fault, and answers the fault to report, this one or that of writing: the machine is told of a line
+/// or a limit that refuses the log, and what was said is written. A fault of a device stands as it is, and nothing is
 /// written.
 fn give_up<M: Machine + Drop, W: Target>(
     fault: Fault,
@@ -90,15 +91,15 @@ fn end_untold<M: Machine + Drop, W: Target>(
     receiver: Receiver<M, W>,
     target: &mut W,
 ) -> Fault
-    ensures { SettlesAs W.Target fault receiver.telling.page target.old result target.new }
+    ensures { SettlesAs W.Target fault receiver.telling.sheet target.old result target.new }
 {
     let Receiver { telling, .. } = receiver;
-    let Telling { mut page, .. } = telling;
-    settle_before(fault, target, &mut page)
+    let Telling { mut sheet, .. } = telling;
+    settle_before(fault, target, &mut sheet)
 }
 
-/// Writes what is said of a refusal, behind what was said of the lines before, and answers why the log is refused, or the
-/// fault of writing.
+/// Writes what is said of a refusal, behind what was said of the lines before, and answers why the log is refused, or
+/// the fault of writing.
 fn refuse<M: Machine, W: Target>(
     why: Fault,
     glimpse: Glimpse<'_>,
@@ -111,18 +112,18 @@ fn refuse<M: Machine, W: Target>(
     let Receiver { telling, .. } = receiver;
     let Telling {
         machine,
-        mut page,
+        mut sheet,
         ..
     } = telling;
-    tell_refusal(machine, target, &mut page, &summary, why, glimpse);
-    settle_before(why, target, &mut page)
+    tell_refusal(machine, target, &mut sheet, &summary, why, glimpse);
+    settle_before(why, target, &mut sheet)
 }
 
 /// Writes what was said before a fault, and answers that fault, or that of writing where this failed.
-fn settle_before<W: Target>(fault: Fault, target: &mut W, page: &mut Page) -> Fault
-    ensures { SettlesAs W.Target fault page.old target.old result target.new }
+fn settle_before<W: Target>(fault: Fault, target: &mut W, sheet: &mut Sheet) -> Fault
+    ensures { SettlesAs W.Target fault sheet.old target.old result target.new }
 {
-    if page.settle(target) {
+    if sheet.settle(target) {
         fault
     } else {
         Fault::Write
@@ -143,11 +144,11 @@ fn finish<M: Machine, W: Target>(
     let Receiver { pair, telling, .. } = receiver;
     let Telling {
         machine,
-        mut page,
+        mut sheet,
         ..
     } = telling;
-    let answer = tell_end(machine, target, &mut page, &pair, &summary);
-    if !page.settle(target) {
+    let answer = tell_end(machine, target, &mut sheet, &pair, &summary);
+    if !sheet.settle(target) {
         return Err(Fault::Write);
     }
     Ok(answer?)

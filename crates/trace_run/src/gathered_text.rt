@@ -1,29 +1,29 @@
-//! The text that is gathered on a page, so that it is written in few pieces.
+//! The text that is gathered on a sheet, so that it is written in few pieces.
 ghost use Rattle.std.specs.Prelude.{◌≡◌, ◌+◌, ◌<◌, ◌≤◌, [], ◌++◌, length, take, true, false};
 
 use can_log::LONGEST_LINE;
 use std::marker::Model;
 use std::simd::{u8x4, u8x8, u8x16};
 
-/// The most bytes that a page holds: 64 canonical lines of the longest kind.
-pub(crate) const PAGE_LENGTH: usize = 64 * LONGEST_LINE;
+/// The most bytes that a sheet holds: 64 canonical lines of the longest kind.
+pub(crate) const SHEET_LENGTH: usize = 64 * LONGEST_LINE;
 
 /// Text that is gathered for one write. What stands behind it is left over from an earlier one: nothing is cleared.
 #[derive(Drop)]
 pub(crate) struct GatheredText {
-    bytes: [u8; PAGE_LENGTH],
+    bytes: [u8; SHEET_LENGTH],
     len: usize,
 }
 
 impl Model for GatheredText {
     ghost use Rattle.std.specs.Prelude.{◌≡◌, ℕ, ◌≤◌, List, length, take};
-    ghost use Rattle.trace_run.specs.declared.gathered_text.TheConstants.{PAGE_LENGTH};
+    ghost use Rattle.trace_run.specs.declared.gathered_text.TheConstants.{SHEET_LENGTH};
 
     ghost Value = { List ℕ };
 
     ghost view = { λ gathered. take gathered.len gathered.bytes };
 
-    ghost invariant = { λ gathered. (gathered.len ≤ PAGE_LENGTH) × (length gathered.bytes ≡ PAGE_LENGTH) };
+    ghost invariant = { λ gathered. (gathered.len ≤ SHEET_LENGTH) × (length gathered.bytes ≡ SHEET_LENGTH) };
 }
 
 impl GatheredText {
@@ -32,7 +32,7 @@ impl GatheredText {
         ensures { result ≡ [] }
     {
         GatheredText {
-            bytes: [0; PAGE_LENGTH],
+            bytes: [0; SHEET_LENGTH],
             len: 0,
         }
     }
@@ -65,9 +65,9 @@ impl GatheredText {
     /// How many bytes more it has room for.
     #[inline(always)]
     pub(crate) fn room(&self) -> usize
-        ensures { result + length self.now ≡ PAGE_LENGTH }
+        ensures { result + length self.now ≡ SHEET_LENGTH }
     {
-        PAGE_LENGTH - self.len
+        SHEET_LENGTH - self.len
     }
 
     /// Appends the bytes where there is room for them. Answers whether there was.
@@ -76,7 +76,7 @@ impl GatheredText {
         ensures took { result ≡ true → self.new ≡ self.old ++ bytes.now }
         ensures full { result ≡ false → (self.new ≡ self.old) × (0 < length bytes.now) }
     {
-        if self.len + bytes.len() > PAGE_LENGTH {
+        if self.len + bytes.len() > SHEET_LENGTH {
             return false;
         }
         self.append(bytes);
@@ -107,7 +107,7 @@ impl GatheredText {
     /// Appends bytes that there is room for.
     #[inline(always)]
     pub(crate) fn append(&mut self, bytes: &[u8])
-        requires { length self.old + length bytes.now ≤ PAGE_LENGTH }
+        requires { length self.old + length bytes.now ≤ SHEET_LENGTH }
         ensures { self.new ≡ self.old ++ bytes.now }
     {
         let end = self.len + bytes.len();
@@ -138,9 +138,9 @@ fn copy(from: &[u8], to: &mut [u8])
     }
 }
 
-/// Lays a text over the bytes from `at` on. This is for a text whose length is mostly known when it is compiled, so that
-/// no test of it is left; for one whose length varies there is `copy`. Sixteen bytes are laid by one store, whatever
-/// memory they are in.
+/// Lays a text over the bytes from `at` on. This is for a text whose length is mostly known when it is compiled, so
+/// that no test of it is left; for one whose length varies there is `copy`. Sixteen bytes are laid by one store,
+/// whatever memory they are in.
 #[inline(always)]
 fn lay(bytes: &mut [u8], at: usize, text: &[u8])
     requires { at + length text.now ≤ length bytes.old }

@@ -10,7 +10,7 @@ ghost use Rattle.trace_log.specs.Summing.{counted_more};
 ghost use Rattle.trace_log.specs.Feeding.{IsOfTaker};
 
 use crate::machine::Machine;
-use crate::telling::{FrameEvent, Telling};
+use crate::telling::{FrameEvent, Telling, count_and_tell};
 use can_log::{Stamped, Wanted};
 use direction::Dir;
 use isotp_receive::{Event, Pair, Verdict};
@@ -35,17 +35,18 @@ impl<M, W> Receiver<M, W> {
     ghost use Rattle.can_log.specs.declared.frame.Stamped.{Stamped};
     ghost use Rattle.isotp_receive.specs.Capacities.{new_pair};
     ghost use Rattle.isotp_receive.specs.declared.TheConstants.{MESSAGE_LIMIT};
-    ghost use Rattle.trace_log.specs.Messages.{messages_of_lines};
     ghost use Rattle.trace_log.specs.Settings.{Settings};
     ghost use Rattle.trace_log.specs.Summing.{summary_of};
     ghost use Rattle.trace_log.specs.Summing as Spec;
+    ghost use Rattle.trace_log.specs.Trace.{trace};
     ghost use Rattle.trace_log.specs.proving.Receiving.{IsReceiverStart, Receives};
-    ghost use Rattle.uds_exchange.specs.Judging.{IsJudgeOf};
+    ghost use Rattle.trace_run.specs.proving.Ruling.{HasJudged};
 
     /// Before the first line, with a pair that has received no frame and keeps no memory.
     pub(crate) fn start(config: &Config, pair: Pair, telling: Telling<M>) -> Receiver<M, W>
         requires { pair ≡ new_pair MESSAGE_LIMIT }
-        ensures { IsReceiverStart config.now telling result.config result.pair result.lines result.counts result.telling }
+        ensures { IsReceiverStart config.now telling
+            result.config result.pair result.lines result.counts result.telling }
     {
         Receiver {
             config: *config,
@@ -62,7 +63,7 @@ impl<M, W> Receiver<M, W> {
         ensures { (settings : Settings) (log : List ℕ) (meanings : List (Option Stamped))
             → Receives settings meanings self.now.pair self.now.lines self.now.counts
             → ends_in_line_feed ≡ Spec.ends_in_line_feed log
-            → IsJudgeOf (messages_of_lines MESSAGE_LIMIT settings meanings) self.now.telling.judge
+            → HasJudged settings.rules (trace settings meanings) self.now.telling.judge self.now.telling.ruling.left_out
             → result ≡ summary_of MESSAGE_LIMIT settings log meanings }
     {
         let Receiver {
@@ -78,6 +79,7 @@ impl<M, W> Receiver<M, W> {
             frames: counts.tester_frames.saturating_add(counts.unit_frames),
             unfinished: unfinished(pair),
             pending: judge.removed(),
+            left_out: telling.ruling.left_out,
             ends_in_line_feed,
             looks_exchanged: judge.sides().look_exchanged(),
             ..*counts
@@ -157,11 +159,13 @@ impl<M: Machine, W: Target> Receiver<M, W> {
         ensures fault { IfErr result IsOfTaker }
         ensures pair { OnOk result ((T : List Entry) → self.old.pair.receptions ≡ receptions_after MESSAGE_LIMIT T
             → self.new.pair.receptions ≡ receptions_after MESSAGE_LIMIT (T ++ entry_at line stamped.now dir ∷ [])) }
-        ensures grew { OnOk result (CapacitiesGrow MESSAGE_LIMIT dir (layout_of stamped.now.frame) self.old.pair self.new.pair) }
+        ensures grew { OnOk result
+            (CapacitiesGrow MESSAGE_LIMIT dir (layout_of stamped.now.frame) self.old.pair self.new.pair) }
         ensures counts { OnOk result ((T : List Entry) → self.old.pair.receptions ≡ receptions_after MESSAGE_LIMIT T
-            → self.new.counts ≡ counted_more dir (verdict MESSAGE_LIMIT T (entry_at line stamped.now dir)) self.old.counts) }
-        ensures told { (T : List Entry) → self.old.pair.receptions ≡ receptions_after MESSAGE_LIMIT T → length T < 2 ^ 62
-            → TellsFrame M.Machine W.Target T (entry_at line stamped.now dir)
+            → self.new.counts
+            ≡ counted_more dir (verdict MESSAGE_LIMIT T (entry_at line stamped.now dir)) self.old.counts) }
+        ensures told { (T : List Entry) → self.old.pair.receptions ≡ receptions_after MESSAGE_LIMIT T
+            → length T < 2 ^ 62 → TellsFrame M.Machine W.Target self.old.config.rules T (entry_at line stamped.now dir)
             self.old.telling target.old result self.new.telling target.new }
     {
         // A `match`, here and in `Telling::take`: `?` in both cost 23 to 27 instructions a line (docs/PERF.md).
@@ -173,7 +177,13 @@ impl<M: Machine, W: Target> Receiver<M, W> {
                     dir,
                     event,
                 };
-                hand_on(&mut self.counts, &mut self.telling, target, frame)
+                hand_on(
+                    &self.config,
+                    &mut self.counts,
+                    &mut self.telling,
+                    target,
+                    frame,
+                )
             }
             Err(_refused) => Err(Fault::Memory),
         }
@@ -185,6 +195,7 @@ impl<M: Machine, W: Target> Receiver<M, W> {
 /// load (`docs/DECISIONS.md`).
 #[inline(always)]
 fn hand_on<M: Machine, W: Target>(
+    config: &Config,
     counts: &mut Summary,
     telling: &mut Telling<M>,
     target: &mut W,
@@ -192,7 +203,7 @@ fn hand_on<M: Machine, W: Target>(
 ) -> Result<(), Fault>
     ensures fault { IfErr result IsOfTaker }
     ensures counts { counts.new ≡ counted_more frame.entry.dir (seen_event frame.entry.event) counts.old }
-    ensures told { TellsEvent M.Machine W.Target frame.entry
+    ensures told { TellsEvent M.Machine W.Target config.now.rules frame.entry
         telling.old target.old result telling.new target.new }
 {
     let ended = frame.event.ended;
@@ -200,34 +211,29 @@ fn hand_on<M: Machine, W: Target>(
         Verdict::Message(message) => {
             let verdict = Verdict::Message(message);
             let event = Event { verdict, ended };
-            count_and_tell(counts, telling, target, FrameEvent { event, ..frame })
+            count_and_tell(
+                config,
+                counts,
+                telling,
+                target,
+                FrameEvent { event, ..frame },
+            )
         }
         Verdict::Stored => {
             let verdict = Verdict::Stored;
             let event = Event { verdict, ended };
-            count_and_tell(counts, telling, target, FrameEvent { event, ..frame })
+            count_and_tell(
+                config,
+                counts,
+                telling,
+                target,
+                FrameEvent { event, ..frame },
+            )
         }
         Verdict::Began | Verdict::Flow | Verdict::Dropped(_) => {
-            count_and_tell(counts, telling, target, frame)
+            count_and_tell(config, counts, telling, target, frame)
         }
     }
-}
-
-/// Counts what a frame did, and has it told.
-#[inline(always)]
-fn count_and_tell<M: Machine, W: Target>(
-    counts: &mut Summary,
-    telling: &mut Telling<M>,
-    target: &mut W,
-    frame: FrameEvent<'_>,
-) -> Result<(), Fault>
-    ensures fault { IfErr result IsOfTaker }
-    ensures counts { counts.new ≡ counted_more frame.entry.dir (seen_event frame.entry.event) counts.old }
-    ensures told { TellsEvent M.Machine W.Target frame.entry
-        telling.old target.old result telling.new target.new }
-{
-    counts.count(frame.dir, frame.event);
-    telling.take(target, frame)
 }
 
 /// How many receptions stand.

@@ -66,7 +66,8 @@ last_four n rest is =
 -- four digits behind a number
 pub and_four : (n front rest : ℕ) → 10000 ≤ n → n < 2 ^ 64 → front ≡ n / 10000 → rest ≡ n % 10000 → decimal front ++ digits.decimal 4 rest ≡ decimal n
 and_four n front rest some small front_is rest_is =
-    ap (λ f. decimal f ++ digits.decimal 4 rest) front_is ∙ ap (λ l. decimal (n / 10000) ++ l) (last_four n rest rest_is) ∙ sym (four_behind n some small)
+    ap (λ f. decimal f ++ digits.decimal 4 rest) front_is ∙ ap (λ l. decimal (n / 10000) ++ l) (last_four n rest rest_is)
+    ∙ sym (four_behind n some small)
 
 -- and twice four
 pub and_eight : (n front middle rest : ℕ) → 100000000 ≤ n → n < 2 ^ 64 → front ≡ n / 100000000 → middle ≡ n / 10000 % 10000 → rest ≡ n % 10000

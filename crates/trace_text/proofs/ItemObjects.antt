@@ -8,7 +8,9 @@ use Rattle.trace_text.specs.declared.item_style.Numbering.{Numbering}
 use Rattle.trace_text.specs.declared.item_style.Numbering.TheVariants.{Shown, Hidden}
 use Rattle.trace_text.specs.Json.{Members, nothing, member, object, object_line, value_text}
 use Rattle.trace_text.specs.Json as json
-use Rattle.trace_text.specs.Words.{bytes_text, direction_text, service_text, code_text}
+use Rattle.uds_rules.specs.Rule.{RuleValue}
+use Rattle.trace_text.specs.RuledText.{ruled_text}
+use Rattle.trace_text.specs.Words.{direction_text, service_text, code_text}
 use Rattle.trace_text.specs.ItemLines.{outcome_members, item_members, item_object}
 use Rattle.trace_text.specs.proving.Spelling.{later_then, members_then}
 use Rattle.trace_text.specs.proving.OpenItems.{open_item, open_object, open_outcome}
@@ -25,11 +27,13 @@ closed members behind = codes "\"" ++ later_then members (codes "}" ++ behind)
 
 -- an answer, by whether it is negative
 answer_by : (negative : Bool) (code bytes behind : List ℕ)
-    → (if negative then codes "\",\"outcome\":\"negative\",\"code\":\"" ++ code ++ codes "\",\"answer\":\"" ++ bytes else codes "\",\"outcome\":\"positive\",\"answer\":\"" ++ bytes)
-    ++ end_then behind
-    ≡ closed (if negative then member (codes "outcome") (json.string (codes "negative")) (member (codes "code") (json.string code) (member (codes "answer") (json.string bytes) nothing))
+    → (if negative then codes "\",\"outcome\":\"negative\",\"code\":\"" ++ code ++ codes "\",\"answer\":\"" ++ bytes
+    else codes "\",\"outcome\":\"positive\",\"answer\":\"" ++ bytes) ++ end_then behind
+    ≡ closed (if negative then member (codes "outcome") (json.string (codes "negative"))
+    (member (codes "code") (json.string code) (member (codes "answer") (json.string bytes) nothing))
     else member (codes "outcome") (json.string (codes "positive")) (member (codes "answer") (json.string bytes) nothing)) behind
-answer_by true code bytes behind = four_parts (codes "\",\"outcome\":\"negative\",\"code\":\"") code (codes "\",\"answer\":\"") bytes (end_then behind)
+answer_by true code bytes behind = four_parts (codes "\",\"outcome\":\"negative\",\"code\":\"") code (codes "\",\"answer\":\"") bytes
+    (end_then behind)
 answer_by false code bytes behind = append_assoc (codes "\",\"outcome\":\"positive\",\"answer\":\"") bytes (end_then behind)
 
 -- no answer, by whether none was asked for
@@ -39,42 +43,49 @@ none_by : (asked : Bool) (behind : List ℕ)
 none_by true behind = refl
 none_by false behind = refl
 
-outcome_is : (request : List ℕ) (reply : Option (List ℕ)) (behind : List ℕ)
-    → open_outcome request reply ++ end_then behind ≡ closed (outcome_members request reply) behind
-outcome_is request (Some reply) behind = answer_by (is_negative_response reply) (code_text (response_code reply)) (bytes_text reply) behind
-outcome_is request None behind = none_by (is_suppressing request) behind
+outcome_is : (rules : List RuleValue) (request : List ℕ) (reply : Option (List ℕ)) (behind : List ℕ)
+    → open_outcome rules request reply ++ end_then behind ≡ closed (outcome_members rules request reply) behind
+outcome_is rules request (Some reply) behind = answer_by (is_negative_response reply) (code_text (response_code reply))
+    (ruled_text rules reply) behind
+outcome_is rules request None behind = none_by (is_suppressing request) behind
 
 -- an item, with its key
-item_is : (item : ItemValue) (behind : List ℕ) → codes "\"kind\":\"" ++ (open_item item ++ end_then behind) ≡ members_then (item_members item) (codes "}" ++ behind)
-item_is (exchange request reply) behind =
+item_is : (rules : List RuleValue) (item : ItemValue) (behind : List ℕ)
+    → codes "\"kind\":\"" ++ (open_item rules item ++ end_then behind) ≡ members_then (item_members rules item) (codes "}" ++ behind)
+item_is rules (exchange request reply) behind =
     let front : List ℕ → List ℕ = λ l.
-    codes "\"kind\":\"exchange\",\"service\":\"" ++ (service_text (sid request) ++ (codes "\",\"request\":\"" ++ (bytes_text request ++ l))) in
+    codes "\"kind\":\"exchange\",\"service\":\"" ++ (service_text (sid request) ++ (codes "\",\"request\":\"" ++ (ruled_text rules request ++ l))) in
     ap (λ l. codes "\"kind\":\"" ++ l)
-    (five_parts (codes "exchange\",\"service\":\"") (service_text (sid request)) (codes "\",\"request\":\"") (bytes_text request) (open_outcome request reply) (end_then behind))
-    ∙ ap front (outcome_is request reply behind)
-item_is (stray d bytes) behind =
+    (five_parts (codes "exchange\",\"service\":\"") (service_text (sid request)) (codes "\",\"request\":\"") (ruled_text rules request)
+    (open_outcome rules request reply) (end_then behind))
+    ∙ ap front (outcome_is rules request reply behind)
+item_is rules (stray d bytes) behind =
     ap (λ l. codes "\"kind\":\"" ++ l)
-    (four_parts (codes "stray\",\"direction\":\"") (direction_text d) (codes "\",\"message\":\"") (bytes_text bytes) (end_then behind))
+    (four_parts (codes "stray\",\"direction\":\"") (direction_text d) (codes "\",\"message\":\"") (ruled_text rules bytes) (end_then behind))
 
 -- an item that has members is one with a comma in front of them
-is_later : (item : ItemValue) (behind : List ℕ) → codes "," ++ members_then (item_members item) behind ≡ later_then (item_members item) behind
-is_later (exchange request reply) behind = refl
-is_later (stray d bytes) behind = refl
+is_later : (rules : List RuleValue) (item : ItemValue) (behind : List ℕ)
+    → codes "," ++ members_then (item_members rules item) behind ≡ later_then (item_members rules item) behind
+is_later rules (exchange request reply) behind = refl
+is_later rules (stray d bytes) behind = refl
 
 -- the object with its end, and what is behind it
-closed_object : (numbering : Numbering) (number : ℕ) (item : ItemValue) (behind : List ℕ)
-    → open_object numbering number item ++ end_then behind ≡ codes "{" ++ members_then (item_object numbering number item) (codes "}" ++ behind)
-closed_object Hidden number item behind = ap (λ l. codes "{" ++ l) (item_is item behind)
-closed_object Shown number item behind =
-    ap (λ l. codes "{\"item\":" ++ l) (four_parts (decimal number) (codes ",") (codes "\"kind\":\"") (open_item item) (end_then behind))
-    ∙ ap (λ l. codes "{\"item\":" ++ (decimal number ++ l)) (ap (λ l. codes "," ++ l) (item_is item behind) ∙ is_later item (codes "}" ++ behind))
+closed_object : (rules : List RuleValue) (numbering : Numbering) (number : ℕ) (item : ItemValue) (behind : List ℕ)
+    → open_object rules numbering number item ++ end_then behind
+    ≡ codes "{" ++ members_then (item_object rules numbering number item) (codes "}" ++ behind)
+closed_object rules Hidden number item behind = ap (λ l. codes "{" ++ l) (item_is rules item behind)
+closed_object rules Shown number item behind =
+    ap (λ l. codes "{\"item\":" ++ l) (four_parts (decimal number) (codes ",") (codes "\"kind\":\"") (open_item rules item) (end_then behind))
+    ∙ ap (λ l. codes "{\"item\":" ++ (decimal number ++ l)) (ap (λ l. codes "," ++ l) (item_is rules item behind)
+    ∙ is_later rules item (codes "}" ++ behind))
 
-pub object_is : (numbering : Numbering) (number : ℕ) (item : ItemValue)
-    → open_object numbering number item ++ codes "\"}" ≡ value_text (object (item_object numbering number item))
-object_is numbering number item =
-    closed_object numbering number item [] ∙ ap (λ l. codes "{" ++ l) (sym (members_are (item_object numbering number item) (codes "}")))
+pub object_is : (rules : List RuleValue) (numbering : Numbering) (number : ℕ) (item : ItemValue)
+    → open_object rules numbering number item ++ codes "\"}" ≡ value_text (object (item_object rules numbering number item))
+object_is rules numbering number item =
+    closed_object rules numbering number item [] ∙ ap (λ l. codes "{" ++ l) (sym (members_are (item_object rules numbering number item) (codes "}")))
 
 -- the line of the object
-pub object_line_is : (numbering : Numbering) (number : ℕ) (item : ItemValue)
-    → open_object numbering number item ++ codes "\"}\n" ≡ object_line (item_object numbering number item)
-object_line_is numbering number item = closed_object numbering number item (codes "\n") ∙ sym (line_is (item_object numbering number item))
+pub object_line_is : (rules : List RuleValue) (numbering : Numbering) (number : ℕ) (item : ItemValue)
+    → open_object rules numbering number item ++ codes "\"}\n" ≡ object_line (item_object rules numbering number item)
+object_line_is rules numbering number item = closed_object rules numbering number item (codes "\n")
+    ∙ sym (line_is (item_object rules numbering number item))

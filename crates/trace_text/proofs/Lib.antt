@@ -7,6 +7,9 @@ pub mod ItemLines
 pub mod JsonTexts
 pub mod ItemObjects
 pub mod TextWords
+pub mod RuledWords
+pub mod SpelledMembers
+pub mod ItemWords
 pub mod EqualLists
 pub mod Silence
 pub mod Roles

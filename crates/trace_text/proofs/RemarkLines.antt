@@ -8,11 +8,13 @@ use Rattle.trace_log.specs.Summing.{seen_counts}
 use Rattle.trace_text.specs.Counts.{counts_between}
 
 -- the counts behind the first one
-later_counts : (counts : List Count) → counts_between (codes " ") (codes " ") counts ≡ flat_map (λ more. codes " " ++ count_text more) (seen_counts counts)
+later_counts : (counts : List Count) → counts_between (codes " ") (codes " ") counts
+    ≡ flat_map (λ more. codes " " ++ count_text more) (seen_counts counts)
 later_counts [] = refl
 later_counts (count ∷ later) =
     ap (λ l. (codes " " ++ (count.0.now ++ (codes " " ++ decimal count.1))) ++ l) (later_counts later)
-    ∙ ap (λ l. (codes " " ++ l) ++ flat_map (λ more. codes " " ++ count_text more) (seen_counts later)) (sym (append_assoc count.0.now (codes " ") (decimal count.1)))
+    ∙ ap (λ l. (codes " " ++ l) ++ flat_map (λ more. codes " " ++ count_text more) (seen_counts later))
+    (sym (append_assoc count.0.now (codes " ") (decimal count.1)))
 
 only_one : (name number : List ℕ) → (name ++ (codes " " ++ number)) ++ [] ≡ name ++ codes " " ++ number
 only_one name number = simp (append_assoc, append-nil)

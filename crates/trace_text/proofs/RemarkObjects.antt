@@ -29,7 +29,8 @@ pub ended_object : (line : ℕ) (ended : Ended)
     ≡ object_line (remark_members (remark.Ended line ended))
 ended_object line ended =
     ended_parts (codes "{\"line\":") (decimal line) (codes ",\"event\":\"ended\"") (codes ",\"direction\":\"") (direction_text ended.dir) (codes "\"")
-    (codes ",\"begun_line\":") (decimal ended.begun_line) (codes ",\"length\":") (decimal ended.len) (codes ",\"cause\":\"") (cause_text ended.cause) (codes "}\n")
+    (codes ",\"begun_line\":") (decimal ended.begun_line) (codes ",\"length\":") (decimal ended.len)
+    (codes ",\"cause\":\"") (cause_text ended.cause) (codes "}\n")
     ∙ sym (line_is (remark_members (remark.Ended line ended)))
 
 -- those of a dropped frame
@@ -48,7 +49,8 @@ dropped_object line d why =
     ∙ sym (line_is (remark_members (remark.Dropped line d why)))
 
 -- those of one that stands at the end
-unfinished_parts : (e dk d q bk b lk l end : List ℕ) → e ++ (dk ++ d ++ q) ++ (bk ++ b) ++ (lk ++ l) ++ end ≡ e ++ (dk ++ (d ++ (q ++ (bk ++ (b ++ (lk ++ (l ++ end)))))))
+unfinished_parts : (e dk d q bk b lk l end : List ℕ) → e ++ (dk ++ d ++ q) ++ (bk ++ b) ++ (lk ++ l) ++ end
+    ≡ e ++ (dk ++ (d ++ (q ++ (bk ++ (b ++ (lk ++ (l ++ end)))))))
 unfinished_parts e dk d q bk b lk l end = simp append_assoc
 
 pub unfinished_object : (d : Dir) (line len : ℕ)
@@ -72,10 +74,12 @@ pub sequence_reason : (expected found first second : ℕ) → first ≡ expected
     → codes ",\"reason\":\"sequence number\"" ++ (codes ",\"expected\":" ++ decimal first) ++ (codes ",\"found\":" ++ decimal second)
     ≡ later_text (reason_members (reason.NextSequence expected found))
 sequence_reason expected found first second first_is second_is =
-    rw (first_is, second_is) (two_numbers (codes ",\"reason\":\"sequence number\"") (codes ",\"expected\":") (decimal expected) (codes ",\"found\":") (decimal found))
+    rw (first_is, second_is) (two_numbers (codes ",\"reason\":\"sequence number\"") (codes ",\"expected\":") (decimal expected)
+    (codes ",\"found\":") (decimal found))
 
 pub announced_reason : (announced : ℕ)
-    → codes ",\"reason\":\"bytes announced\"" ++ (codes ",\"announced\":" ++ decimal announced) ≡ later_text (reason_members (reason.TooLong announced))
+    → codes ",\"reason\":\"bytes announced\"" ++ (codes ",\"announced\":" ++ decimal announced)
+    ≡ later_text (reason_members (reason.TooLong announced))
 announced_reason announced = ap (λ l. codes ",\"reason\":\"bytes announced\"" ++ l) (sym (append-nil (codes ",\"announced\":" ++ decimal announced)))
 
 one_member : (name number later behind : List ℕ) → ((codes ",\"" ++ (name ++ (codes "\":" ++ number))) ++ later) ++ behind
@@ -92,7 +96,8 @@ count_members_are (count ∷ later) behind =
 
 -- the object of the counts
 pub counts_object : (summary : Summary) (counts : List Count) → seen_counts counts ≡ named_counts summary
-    → codes "{\"event\":\"counts\"" ++ (counts_between (codes ",\"") (codes "\":") counts ++ codes "}\n") ≡ object_line (remark_members (remark.Counts summary))
+    → codes "{\"event\":\"counts\"" ++ (counts_between (codes ",\"") (codes "\":") counts ++ codes "}\n")
+    ≡ object_line (remark_members (remark.Counts summary))
 counts_object summary counts are =
     ap (λ l. codes "{\"event\":\"counts\"" ++ l) (count_members_are counts (codes "}\n") ∙ ap (λ c. later_then (count_members c) (codes "}\n")) are)
     ∙ sym (line_is (remark_members (remark.Counts summary)))

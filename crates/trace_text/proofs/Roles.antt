@@ -1,42 +1,47 @@
 -- The texts of roles.
 use Prim.Native.Char.{code}
 use Rattle.std.proofs.Common.{◌≡◌, ℕ, ◌==◌, List, [], ◌∷◌, refl, ap, sym, ◌∙◌}
+use Rattle.std.specs.Prelude.{codes, if◌then◌else◌}
+use Rattle.uds_exchange.specs.Laws.{role_of_step}
+use Rattle.uds_exchange.specs.Roles.{MessageRole, as_request, as_answer, as_removed, as_stray}
 use Rattle.uds_exchange.specs.declared.step.Step.{Step}
 use Rattle.uds_exchange.specs.declared.step.Step.TheVariants as becomes
-use Rattle.trace_text.specs.Laws.{RolesDiffer, is_answer, is_pending, is_request}
+use Rattle.trace_text.specs.Laws.{RolesDiffer}
 use Rattle.trace_text.specs.Words.{role_text}
 
--- the letter with which a text begins
-abbrev initial : List ℕ → ℕ
-initial [] = 0
-initial (b ∷ rest) = b
+-- the role that a text names, by the letter with which it begins
+abbrev named_role : List ℕ → MessageRole
+named_role [] = as_stray
+named_role (letter ∷ rest) =
+    if letter == code "r" then as_request
+    else if letter == code "a" then as_answer
+    else if letter == code "p" then as_removed
+    else as_stray
 
-requests_begin : (step : Step) → is_request step ≡ (initial (role_text step) == code "r")
-requests_begin (becomes.Request service) = refl
-requests_begin becomes.Answer = refl
-requests_begin becomes.Removed = refl
-requests_begin becomes.Hold = refl
-requests_begin becomes.Pass = refl
+abbrev text_of_role : MessageRole → List ℕ
+text_of_role as_request = codes "request"
+text_of_role as_answer = codes "answer"
+text_of_role as_removed = codes "pending"
+text_of_role as_stray = codes "stray"
 
-answers_begin : (step : Step) → is_answer step ≡ (initial (role_text step) == code "a")
-answers_begin (becomes.Request service) = refl
-answers_begin becomes.Answer = refl
-answers_begin becomes.Removed = refl
-answers_begin becomes.Hold = refl
-answers_begin becomes.Pass = refl
+-- the text of a step names its role
+named : (step : Step) → named_role (role_text step) ≡ role_of_step step
+named (becomes.Request service) = refl
+named becomes.Answer = refl
+named becomes.Removed = refl
+named becomes.Hold = refl
+named becomes.Pass = refl
 
-pending_begin : (step : Step) → is_pending step ≡ (initial (role_text step) == code "p")
-pending_begin (becomes.Request service) = refl
-pending_begin becomes.Answer = refl
-pending_begin becomes.Removed = refl
-pending_begin becomes.Hold = refl
-pending_begin becomes.Pass = refl
+-- and that role has this text
+told : (step : Step) → text_of_role (role_of_step step) ≡ role_text step
+told (becomes.Request service) = refl
+told becomes.Answer = refl
+told becomes.Removed = refl
+told becomes.Hold = refl
+told becomes.Pass = refl
 
 pub roles_differ : RolesDiffer
-roles_differ one other same =
-    let begin_alike : (letter : ℕ) → (initial (role_text one) == letter) ≡ (initial (role_text other) == letter) =
-    (λ letter. ap (λ text. initial text == letter) same) in (
-      requests_begin one ∙ (begin_alike (code "r") ∙ sym (requests_begin other)),
-      answers_begin one ∙ (begin_alike (code "a") ∙ sym (answers_begin other)),
-      pending_begin one ∙ (begin_alike (code "p") ∙ sym (pending_begin other)),
-    )
+roles_differ one other = (
+  λ same. sym (named one) ∙ (ap named_role same ∙ named other),
+  λ same. sym (told one) ∙ (ap text_of_role same ∙ told other),
+)

@@ -23,10 +23,14 @@ word (member key (string text) later) = text
 word (member key json.null later) = codes ""
 word (member key (json.truth b) later) = codes ""
 word (member key (json.number n) later) = codes ""
+word (member key (json.pair one other) later) = codes ""
 word (member key (json.object inner) later) = codes ""
 
 pub silence_was_asked_for : SilenceWasAskedFor
-silence_was_asked_for request = told_by (is_suppressing request)
+silence_was_asked_for rules request = told_by (is_suppressing request)
 
 pub silence_was_asked_for_in_json : SilenceWasAskedForInJson
-silence_was_asked_for_in_json request = (λ same. (told_by (is_suppressing request)).0 (ap word same), λ is. ap members ((told_by (is_suppressing request)).1 is))
+silence_was_asked_for_in_json rules request = (
+  λ same. (told_by (is_suppressing request)).0 (ap word same),
+  λ is. ap members ((told_by (is_suppressing request)).1 is),
+)

@@ -12,15 +12,14 @@ use Rattle.trace_text.specs.Words.{bytes_text, service_text, code_text}
 
 -- ---- words
 
--- no byte of a word is below the digit 0, nor a backslash: so no quote is in it, and nothing that a string of JSON
--- escapes
+-- no byte of a word is below `*`, nor a backslash: so no quote is in it, and nothing that a string of JSON escapes
 abbrev pub is_in_word : ℕ → Bool
-is_in_word b = nat_le 48 b && not (b == 92)
+is_in_word b = nat_le 42 b && not (b == 92)
 
 abbrev pub IsWord : List ℕ → Type 0
 IsWord bytes = AllByRecursion (λ b. is_in_word b ≡ true) bytes
 
-high_in_word : (b : ℕ) → is_in_word b ≡ true → 48 ≤ b
+high_in_word : (b : ℕ) → is_in_word b ≡ true → 42 ≤ b
 high_in_word b is = grind (arith, nat_tests)
 
 abbrev pub first_of : List ℕ → ℕ
@@ -37,7 +36,7 @@ strip [] one other is = is
 strip (b ∷ front) one other is = strip front one other (ap rest_of is)
 
 -- and so is what stands before it, where words end at a lower byte
-pub cut : (a b one other : List ℕ) → IsWord a → IsWord b → first_of one < 48 → first_of other < 48 → a ++ one ≡ b ++ other → (a ≡ b) × (one ≡ other)
+pub cut : (a b one other : List ℕ) → IsWord a → IsWord b → first_of one < 42 → first_of other < 42 → a ++ one ≡ b ++ other → (a ≡ b) × (one ≡ other)
 cut [] [] one other wa wb low under is = (refl, is)
 cut [] (d ∷ b) one other wa wb low under is =
     let same : first_of one ≡ d = ap first_of is in
@@ -52,13 +51,13 @@ cut (c ∷ a) (d ∷ b) one other wa wb low under is =
     let same : c ≡ d = ap first_of is in
     (ap₂ (λ h t. h ∷ t) same rest.0, rest.1)
 
-digit_in_word : (d : ℕ) → d < 16 → is_in_word (digit d) ≡ true
+pub digit_in_word : (d : ℕ) → d < 16 → is_in_word (digit d) ≡ true
 digit_in_word d small = grind (arith, nat_tests)
 
 digit_same : (m n : ℕ) → m < 16 → n < 16 → digit m ≡ digit n → m ≡ n
 digit_same m n small few is = grind (arith, nat_tests)
 
-pair_word : (b : ℕ) → IsWord (hexadecimal 2 b)
+pub pair_word : (b : ℕ) → IsWord (hexadecimal 2 b)
 unfolding digits
 pair_word b = (digit_in_word (b / 16 % 16) (omega arith), (digit_in_word (b % 16) (omega arith), tt))
 
@@ -85,17 +84,20 @@ bytes_same (b ∷ one) (c ∷ other) small few is =
 pub name_word : (name : List ℕ) → list_all is_in_word name ≡ true → IsWord name
 name_word name tested = AllByRecursion-tested is_in_word name tested
 
-service_first : (b : Bool) (row : Service) (found : Option Service) (other : List ℕ) → IsWord row.name → IsWord (unwrap_or (option_map (λ r. r.name) found) other)
+service_first : (b : Bool) (row : Service) (found : Option Service) (other : List ℕ) → IsWord row.name
+    → IsWord (unwrap_or (option_map (λ r. r.name) found) other)
     → IsWord (unwrap_or (option_map (λ r. r.name) (if b then Some row else found)) other)
 service_first true row found other word rest = word
 service_first false row found other word rest = rest
 
-service_in : (rows : List Service) → list_all (λ (row : Service). list_all is_in_word row.name) rows ≡ true → (service : ℕ) (other : List ℕ) → IsWord other
+service_in : (rows : List Service) → list_all (λ (row : Service). list_all is_in_word row.name) rows ≡ true → (service : ℕ) (other : List ℕ)
+    → IsWord other
     → IsWord (unwrap_or (option_map (λ row. row.name) (service_row_in rows service)) other)
 service_in [] all service other word = word
 service_in (row ∷ rows) all service other word =
     let parts = and_parts (list_all is_in_word row.name) (list_all (λ (r : Service). list_all is_in_word r.name) rows) all in
-    service_first (service == row.sid) row (service_row_in rows service) other (name_word row.name parts.0) (service_in rows parts.1 service other word)
+    service_first (service == row.sid) row (service_row_in rows service) other (name_word row.name parts.0)
+    (service_in rows parts.1 service other word)
 
 code_first : (b : Bool) (name : List ℕ) (found : Option (List ℕ)) (other : List ℕ) → IsWord name → IsWord (unwrap_or found other)
     → IsWord (unwrap_or (if b then Some name else found) other)
@@ -114,7 +116,8 @@ pub service_word : (service : ℕ) → IsWord (service_text service)
 unfolding service_text
 service_word service =
     service_in services refl service (codes "service_" ++ hexadecimal 2 service)
-    (AllByRecursion-append (λ d. is_in_word d ≡ true) (codes "service_") (hexadecimal 2 service) (name_word (codes "service_") refl) (pair_word service))
+    (AllByRecursion-append (λ d. is_in_word d ≡ true) (codes "service_") (hexadecimal 2 service) (name_word (codes "service_") refl)
+    (pair_word service))
 
 pub code_word : (code : ℕ) → IsWord (code_text code)
 unfolding code_text

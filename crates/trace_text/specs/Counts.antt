@@ -1,5 +1,5 @@
--- Counts, with what stands before and between.
-use Rattle.std.specs.Prelude.{List, ℕ, ◌++◌}
+-- Counts: of messages, and those of a log, with what stands before and between.
+use Rattle.std.specs.Prelude.{List, ℕ, ◌++◌, ◌==◌, codes, if◌then◌else◌}
 use Rattle.std.specs.Fmt.{decimal}
 use Rattle.std.specs.List.{flat_map}
 use Rattle.trace_log.specs.declared.summary.Count.{Count}
@@ -11,3 +11,7 @@ count_between before between count = before ++ (count.0.now ++ (between ++ decim
 -- counts one after another
 abbrev pub counts_between : List ℕ → List ℕ → List Count → List ℕ
 counts_between before between counts = flat_map (count_between before between) counts
+
+-- so many messages
+abbrev pub messages_word : ℕ → List ℕ
+messages_word count = if count == 1 then codes "1 message" else decimal count ++ codes " messages"

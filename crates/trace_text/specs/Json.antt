@@ -8,6 +8,7 @@ mutual
     null : Value
     truth : Bool → Value
     number : ℕ → Value
+    pair : ℕ → ℕ → Value
     string : List ℕ → Value
     object : Members → Value
 
@@ -21,12 +22,13 @@ abbrev pub in_quotes : List ℕ → List ℕ
 in_quotes text = codes "\"" ++ text ++ codes "\""
 
 abbrev mutual
-  -- a value as it is written: numbers in decimal
+  -- a value as it is written: numbers in decimal, and a pair of them as an array
   pub value_text : Value → List ℕ
   value_text null = codes "null"
   value_text (truth true) = codes "true"
   value_text (truth false) = codes "false"
   value_text (number n) = decimal n
+  value_text (pair one other) = codes "[" ++ decimal one ++ codes "," ++ decimal other ++ codes "]"
   value_text (string text) = in_quotes text
   value_text (object members) = codes "{" ++ members_text members ++ codes "}"
 

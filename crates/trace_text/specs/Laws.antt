@@ -1,9 +1,11 @@
 -- What holds of the texts of lists of items.
-use Rattle.std.specs.Prelude.{◌≡◌, ◌↔◌, ℕ, Bool, true, false, List, ◌++◌, codes, None}
+use Rattle.std.specs.Prelude.{◌≡◌, ◌↔◌, ℕ, true, List, ◌++◌, codes, Some, None}
 use Rattle.std.specs.List.{AllByRecursion}
 use Rattle.can_log.specs.Frame.{AreBytes}
 use Rattle.direction.specs.Dir.{Message}
 use Rattle.uds_message.specs.Message.{is_suppressing}
+use Rattle.uds_rules.specs.Rule.{RuleValue, made_of}
+use Rattle.uds_exchange.specs.Laws.{role_of_step}
 use Rattle.uds_exchange.specs.Meaning.{ItemValue, messages_of}
 use Rattle.uds_exchange.specs.declared.step.Step.{Step}
 use Rattle.uds_exchange.specs.declared.step.Step.TheVariants as becomes
@@ -17,56 +19,37 @@ use Rattle.trace_text.specs.Words.{role_text}
 
 -- Without numbers, the list of some items and others is the list of the ones and then that of the others.
 abbrev pub UnnumberedListsJoin : Type 0
-UnnumberedListsJoin = (notation : Notation) (xs ys : List ItemValue)
+UnnumberedListsJoin = (rules : List RuleValue) (notation : Notation) (xs ys : List ItemValue)
     → let style : ItemStyle = record { numbering = Hidden; notation = notation } in
-    list_text style (xs ++ ys) ≡ list_text style xs ++ list_text style ys
+    list_text rules style (xs ++ ys) ≡ list_text rules style xs ++ list_text rules style ys
 
 -- the bytes of the messages of an item are bytes
 abbrev pub IsOfBytes : ItemValue → Type 0
 IsOfBytes item = AllByRecursion (λ (sent : Message). AreBytes sent.1) (messages_of item)
 
--- equal lists of items have equal texts, and only they: in each notation, with numbers and without
+-- and rules leave these messages as they are
+abbrev pub IsLeftBy : List RuleValue → ItemValue → Type 0
+IsLeftBy rules item = AllByRecursion (λ (sent : Message). made_of rules sent.1 ≡ Some sent.1) (messages_of item)
+
+-- equal lists of items that rules leave have equal texts, and only they: in each notation, with numbers and without
 abbrev pub EqualListsHaveEqualTexts : Type 0
-EqualListsHaveEqualTexts = (style : ItemStyle) (xs ys : List ItemValue) → AllByRecursion IsOfBytes xs → AllByRecursion IsOfBytes ys
-    → (xs ≡ ys) ↔ (list_text style xs ≡ list_text style ys)
+EqualListsHaveEqualTexts = (rules : List RuleValue) (style : ItemStyle) (xs ys : List ItemValue)
+    → AllByRecursion IsOfBytes xs → AllByRecursion IsOfBytes ys → AllByRecursion (IsLeftBy rules) xs → AllByRecursion (IsLeftBy rules) ys
+    → (xs ≡ ys) ↔ (list_text rules style xs ≡ list_text rules style ys)
 
 -- a request without an answer is told as silent exactly where it asked for no positive response
 abbrev pub SilenceWasAskedFor : Type 0
-SilenceWasAskedFor = (request : List ℕ) → (outcome_text request None ≡ codes "silent") ↔ (is_suppressing request ≡ true)
+SilenceWasAskedFor = (rules : List RuleValue) (request : List ℕ)
+    → (outcome_text rules request None ≡ codes "silent") ↔ (is_suppressing request ≡ true)
 
 -- as JSON too
 abbrev pub SilenceWasAskedForInJson : Type 0
-SilenceWasAskedForInJson = (request : List ℕ)
-    → (outcome_members request None ≡ member (codes "outcome") (json.string (codes "silent")) nothing) ↔ (is_suppressing request ≡ true)
+SilenceWasAskedForInJson = (rules : List RuleValue) (request : List ℕ)
+    → (outcome_members rules request None ≡ member (codes "outcome") (json.string (codes "silent")) nothing) ↔ (is_suppressing request ≡ true)
 
--- a message asks
-abbrev pub is_request : Step → Bool
-is_request (becomes.Request service) = true
-is_request becomes.Answer = false
-is_request becomes.Removed = false
-is_request becomes.Hold = false
-is_request becomes.Pass = false
-
--- it answers
-abbrev pub is_answer : Step → Bool
-is_answer (becomes.Request service) = false
-is_answer becomes.Answer = true
-is_answer becomes.Removed = false
-is_answer becomes.Hold = false
-is_answer becomes.Pass = false
-
--- it announces an answer; what does none of the three belongs to no exchange
-abbrev pub is_pending : Step → Bool
-is_pending (becomes.Request service) = false
-is_pending becomes.Answer = false
-is_pending becomes.Removed = true
-is_pending becomes.Hold = false
-is_pending becomes.Pass = false
-
--- no two roles of messages have one text
+-- each role of messages has one text, and no two roles have the same
 abbrev pub RolesDiffer : Type 0
-RolesDiffer = (one other : Step) → role_text one ≡ role_text other
-    → (is_request one ≡ is_request other) × (is_answer one ≡ is_answer other) × (is_pending one ≡ is_pending other)
+RolesDiffer = (one other : Step) → (role_text one ≡ role_text other) ↔ (role_of_step one ≡ role_of_step other)
 
 -- that of an answer is its name
 abbrev pub AnswerIsNamed : Type 0

@@ -1,7 +1,10 @@
 pub mod Words
+pub mod RuleText
+pub mod RuledText
 pub mod Counts
 pub mod Json
 pub mod ItemLines
 pub mod RemarkLines
 pub mod Laws
+pub mod RuledLaws
 pub mod proving

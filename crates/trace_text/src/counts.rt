@@ -1,7 +1,8 @@
-//! Counts, with what stands before each and between its name and its number.
+//! Counts: of messages, and those of a log, with what stands before each and between its name and its number.
 ghost use Rattle.trace_text.specs.Counts.{counts_between};
 
-use crate::values::{say_number, say_text};
+use crate::numbers::Number;
+use text_parts::{Either, Part, say};
 use trace_io::TextSink;
 use trace_log::Count;
 
@@ -15,9 +16,21 @@ pub fn say_counts<S: TextSink>(
     ensures { S.says out.old (counts_between before.now between.now counts.now) out.new }
 {
     'counts: for count in counts {
-        say_text(out, before);
-        say_text(out, count.0);
-        say_text(out, between);
-        say_number(out, count.1);
+        say(out, (before, count.0, between, Number(count.1)));
+    }
+}
+
+/// So many messages.
+#[derive(Clone, Copy)]
+pub struct MessagesWord(pub u64);
+
+impl Part for MessagesWord {
+    ghost use Rattle.trace_text.specs.Counts.{messages_word};
+
+    ghost text = { λ word. messages_word word.0 };
+
+    fn say<S: TextSink>(self, out: &mut S) {
+        let several = (Number(self.0), " messages");
+        say(out, Either(self.0 == 1, "1 message", several));
     }
 }

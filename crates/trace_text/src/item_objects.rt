@@ -1,5 +1,5 @@
-//! The items of a meaning as objects of JSON. What is said at once goes from one value to the next, quotes included,
-//! since each piece more takes longer to say.
+//! The items of a meaning under rules as objects of JSON. What is said at once goes from one value to the next, quotes
+//! included, since each piece more takes longer to say.
 //!
 //! So an object is cut amid its quotes, in an `OpenObject`, which has an `ObjectFront` and an `OpenItem`, and the quote
 //! and the brace that end each object:
@@ -16,32 +16,41 @@ ghost use Rattle.trace_text.specs.Json.{object, object_line, value_text};
 ghost use Rattle.trace_text.specs.ItemLines.{item_object};
 ghost use Rattle.trace_text.specs.proving.OpenItems.{open_object};
 
-use crate::bytes::HexBytes;
 use crate::item_style::Numbering;
 use crate::name_parts::{ResponseCode, Sender, ServiceName};
 use crate::numbers::Number;
+use crate::ruled_bytes::RuledBytes;
 use text_parts::{Part, say};
 use trace_io::TextSink;
 use uds_exchange::Item;
 use uds_message::{is_negative_response, is_suppressing, response_code, sid};
+use uds_rules::Rules;
 
 /// Says an item, which has this number, as an object of JSON, without the end of its line.
-pub fn say_item_object<S: TextSink>(number: u64, numbering: Numbering, item: Item<'_>, out: &mut S)
-    ensures { S.says out.old (value_text (object (item_object numbering number (item_value item.entry)))) out.new }
+pub fn say_item_object<S: TextSink>(
+    number: u64,
+    numbering: Numbering,
+    rules: &Rules,
+    item: Item<'_>,
+    out: &mut S,
+)
+    ensures { S.says out.old
+        (value_text (object (item_object rules.now numbering number (item_value item.entry)))) out.new }
 {
-    say_closed(number, numbering, item, "\"}", out);
+    say_closed(number, numbering, rules, item, "\"}", out);
 }
 
 /// Says the line of the object.
 pub(crate) fn say_item_object_line<S: TextSink>(
     number: u64,
     numbering: Numbering,
+    rules: &Rules,
     item: Item<'_>,
     out: &mut S,
 )
-    ensures { S.says out.old (object_line (item_object numbering number (item_value item.entry))) out.new }
+    ensures { S.says out.old (object_line (item_object rules.now numbering number (item_value item.entry))) out.new }
 {
-    say_closed(number, numbering, item, "\"}\n", out);
+    say_closed(number, numbering, rules, item, "\"}\n", out);
 }
 
 /// Says the open object and this end.
@@ -49,15 +58,17 @@ pub(crate) fn say_item_object_line<S: TextSink>(
 fn say_closed<S: TextSink>(
     number: u64,
     numbering: Numbering,
+    rules: &Rules,
     item: Item<'_>,
     end: &str,
     out: &mut S,
 )
-    ensures { S.says out.old (open_object numbering number (item_value item.entry) ++ end.now) out.new }
+    ensures { S.says out.old (open_object rules.now numbering number (item_value item.entry) ++ end.now) out.new }
 {
     let open = OpenObject {
         number,
         numbering,
+        rules,
         item,
     };
     say(out, (open, end));
@@ -68,6 +79,7 @@ fn say_closed<S: TextSink>(
 struct OpenObject<'a> {
     number: u64,
     numbering: Numbering,
+    rules: &'a Rules,
     item: Item<'a>,
 }
 
@@ -75,7 +87,7 @@ impl<'a> Part for OpenObject<'a> {
     ghost use Rattle.uds_exchange.specs.ItemSeen.{item_value};
     ghost use Rattle.trace_text.specs.proving.OpenItems.{open_object};
 
-    ghost text = { λ object. open_object object.numbering object.number (item_value object.item) };
+    ghost text = { λ object. open_object object.rules.now object.numbering object.number (item_value object.item) };
 
     #[inline(never)]
     fn say<S: TextSink>(self, out: &mut S) {
@@ -83,7 +95,11 @@ impl<'a> Part for OpenObject<'a> {
             number: self.number,
             numbering: self.numbering,
         };
-        say(out, (front, OpenItem(self.item)));
+        let item = OpenItem {
+            rules: self.rules,
+            item: self.item,
+        };
+        say(out, (front, item));
     }
 }
 
@@ -110,25 +126,36 @@ impl Part for ObjectFront {
 
 /// What an item is, from the word of its kind on.
 #[derive(Clone, Copy)]
-struct OpenItem<'a>(Item<'a>);
+struct OpenItem<'a> {
+    rules: &'a Rules,
+    item: Item<'a>,
+}
 
 impl<'a> Part for OpenItem<'a> {
     ghost use Rattle.uds_exchange.specs.ItemSeen.{item_value};
     ghost use Rattle.trace_text.specs.proving.OpenItems.{open_item};
 
-    ghost text = { λ item. open_item (item_value item.0) };
+    ghost text = { λ words. open_item words.rules.now (item_value words.item) };
 
     #[inline(always)]
     fn say<S: TextSink>(self, out: &mut S) {
-        match self.0 {
+        let rules = self.rules;
+        match self.item {
             Item::Exchange { request, answer } => say(
                 out,
                 (
                     "exchange\",\"service\":\"",
                     ServiceName(sid(request)),
                     "\",\"request\":\"",
-                    HexBytes(request),
-                    OpenOutcome { request, answer },
+                    RuledBytes {
+                        rules,
+                        message: request,
+                    },
+                    OpenOutcome {
+                        rules,
+                        request,
+                        answer,
+                    },
                 ),
             ),
             Item::Stray { dir, bytes } => say(
@@ -137,7 +164,10 @@ impl<'a> Part for OpenItem<'a> {
                     "stray\",\"direction\":\"",
                     Sender(dir),
                     "\",\"message\":\"",
-                    HexBytes(bytes),
+                    RuledBytes {
+                        rules,
+                        message: bytes,
+                    },
                 ),
             ),
         }
@@ -147,6 +177,7 @@ impl<'a> Part for OpenItem<'a> {
 /// What came of a request, from the quote behind it on.
 #[derive(Clone, Copy)]
 struct OpenOutcome<'a> {
+    rules: &'a Rules,
     request: &'a [u8],
     answer: Option<&'a [u8]>,
 }
@@ -155,30 +186,44 @@ impl<'a> Part for OpenOutcome<'a> {
     ghost use Rattle.std.specs.Prelude.{option_map};
     ghost use Rattle.trace_text.specs.proving.OpenItems.{open_outcome};
 
-    ghost text = { λ outcome. open_outcome outcome.request.now (option_map (λ reply. reply.now) outcome.answer) };
+    ghost text = { λ outcome. open_outcome outcome.rules.now outcome.request.now
+        (option_map (λ reply. reply.now) outcome.answer) };
 
     #[inline(always)]
     fn say<S: TextSink>(self, out: &mut S) {
         match self.answer {
             None if is_suppressing(self.request) => say(out, "\",\"outcome\":\"silent"),
             None => say(out, "\",\"outcome\":\"unanswered"),
-            Some(reply) => say(out, OpenAnswer(reply)),
+            Some(reply) => say(
+                out,
+                OpenAnswer {
+                    rules: self.rules,
+                    reply,
+                },
+            ),
         }
     }
 }
 
 /// The answer to a request, from the quote behind the request on.
 #[derive(Clone, Copy)]
-struct OpenAnswer<'a>(&'a [u8]);
+struct OpenAnswer<'a> {
+    rules: &'a Rules,
+    reply: &'a [u8],
+}
 
 impl<'a> Part for OpenAnswer<'a> {
     ghost use Rattle.trace_text.specs.proving.OpenItems.{open_answer};
 
-    ghost text = { λ answer. open_answer answer.0.now };
+    ghost text = { λ answer. open_answer answer.rules.now answer.reply.now };
 
     #[inline(always)]
     fn say<S: TextSink>(self, out: &mut S) {
-        let reply = self.0;
+        let OpenAnswer { rules, reply } = self;
+        let bytes = RuledBytes {
+            rules,
+            message: reply,
+        };
         if is_negative_response(reply) {
             say(
                 out,
@@ -186,14 +231,11 @@ impl<'a> Part for OpenAnswer<'a> {
                     "\",\"outcome\":\"negative\",\"code\":\"",
                     ResponseCode(response_code(reply)),
                     "\",\"answer\":\"",
-                    HexBytes(reply),
+                    bytes,
                 ),
             );
         } else {
-            say(
-                out,
-                ("\",\"outcome\":\"positive\",\"answer\":\"", HexBytes(reply)),
-            );
+            say(out, ("\",\"outcome\":\"positive\",\"answer\":\"", bytes));
         }
     }
 }

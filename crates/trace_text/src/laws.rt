@@ -1,5 +1,7 @@
-//! What holds of the texts of lists of items.
-ghost use Rattle.trace_text.specs.Laws.{UnnumberedListsJoin, EqualListsHaveEqualTexts, SilenceWasAskedFor, SilenceWasAskedForInJson, RolesDiffer, AnswerIsNamed};
+//! What holds of the texts of messages, and of lists of items.
+ghost use Rattle.trace_text.specs.Laws.{UnnumberedListsJoin, EqualListsHaveEqualTexts, RolesDiffer, AnswerIsNamed};
+ghost use Rattle.trace_text.specs.Laws.{SilenceWasAskedFor, SilenceWasAskedForInJson};
+ghost use Rattle.trace_text.specs.RuledLaws.{NoRulesMarkNothing, UnspokenIsNotMarked, EqualMessagesHaveEqualTexts};
 
 /// The lists of items without numbers, one after another, are the list of all: so an item more is a line more, and
 /// changes no other.
@@ -19,8 +21,20 @@ pub fn silence_was_asked_for()
     ensures json { SilenceWasAskedForInJson }
 {}
 
-/// No two roles of messages have one text, and an answer is called `answer`. Messages of no exchange have one role.
+/// Each role of messages has one text, no two have the same, and an answer is called `answer`.
 pub fn roles_have_texts()
     ensures distinct { RolesDiffer }
     ensures answer { AnswerIsNamed }
+{}
+
+/// Messages that rules leave have one text exactly where they are equal: what is masked is told by marks, and nothing
+/// else is.
+pub fn equal_messages_have_equal_texts()
+    ensures { EqualMessagesHaveEqualTexts }
+{}
+
+/// A message that no rule speaks of has the text of its bytes, and so has each without rules.
+pub fn unspoken_is_not_marked()
+    ensures rules { UnspokenIsNotMarked }
+    ensures none { NoRulesMarkNothing }
 {}

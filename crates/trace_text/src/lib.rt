@@ -11,6 +11,15 @@
 //! names; callers that say one after another have [`values`]. Which text it is, `specs` says, for JSON by the object
 //! that is meant.
 //!
+//! | What | Files | Definitions |
+//! |---|---|---|
+//! | numbers and bytes | `numbers`, `digits`, `bytes`, `counts`, `values` | `Words`, `Counts` |
+//! | names: who sent a message, services, codes, causes | `names`, `name_parts` | `Words`, `RemarkLines` |
+//! | items, in words and as JSON | `item_style`, `notation`, `item_lines`, `item_objects` | `ItemLines`, `Json` |
+//! | remarks: what a line that explains a log tells | `remark`, `remark_lines`, `remark_objects` | `RemarkLines` |
+//! | rules, and what they leave of messages | `rule_text`, `ruled_bytes` | `RuleText`, `RuledText` |
+//! | what holds of these texts | [`laws`] | `Laws` |
+//!
 //! [`say_items`] says the list of a meaning, [`say_remark`] a line that explains a log; [`laws`] says that equal lists
 //! have equal texts, and only they.
 #![tactic(auto)]
@@ -29,10 +38,12 @@ mod numbers;
 mod remark;
 mod remark_lines;
 mod remark_objects;
+mod rule_text;
+mod ruled_bytes;
 pub mod values;
 
 pub use bytes::{Byte, HexBytes, Verbatim};
-pub use counts::say_counts;
+pub use counts::{MessagesWord, say_counts};
 pub use item_lines::{say_item_line, say_items, say_worded_line};
 pub use item_objects::say_item_object;
 pub use item_style::{ItemStyle, Numbering};
@@ -43,3 +54,5 @@ pub use notation::Notation;
 pub use numbers::{HexadecimalDigit, Length, Number, Ordinal, SixDecimals, Stamp, ThreeDecimals};
 pub use remark::Remark;
 pub use remark_lines::say_remark;
+pub use rule_text::RuleText;
+pub use ruled_bytes::RuledBytes;

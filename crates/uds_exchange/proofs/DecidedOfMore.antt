@@ -50,7 +50,8 @@ decided-all its h =
     let none : open_request_in its ≡ None = open-request-waits its ∙ ap request_of h in
     sym (append-nil (decided_in its)) ∙ ap (λ o. decided_in its ++ exchange_items o None (held_in its)) (sym none) ∙ whole its
 
-decided-stray : (its : List ItemValue) (d : Dir) (m : List ℕ) → open_exchange_in its ≡ None → decided_in (its ++ stray d m ∷ []) ≡ its ++ stray d m ∷ []
+decided-stray : (its : List ItemValue) (d : Dir) (m : List ℕ) → open_exchange_in its ≡ None
+    → decided_in (its ++ stray d m ∷ []) ≡ its ++ stray d m ∷ []
 decided-stray [] d m h = refl
 decided-stray (stray e n ∷ its) d m h = ap (λ l. stray e n ∷ l) (decided-stray its d m (one_later-none _ h))
 decided-stray (exchange q (Some a) ∷ its) d m h = ap (λ l. exchange q (Some a) ∷ l) (decided-stray its d m (one_later-none _ h))
@@ -61,7 +62,8 @@ decided-stray (exchange q None ∷ its) d m h =
     ]
 
 -- where a request waits one more stray decides nothing
-decided-held : (its : List ItemValue) (w : ℕ × List ℕ) (d : Dir) (m : List ℕ) → open_exchange_in its ≡ Some w → decided_in (its ++ stray d m ∷ []) ≡ decided_in its
+decided-held : (its : List ItemValue) (w : ℕ × List ℕ) (d : Dir) (m : List ℕ) → open_exchange_in its ≡ Some w
+    → decided_in (its ++ stray d m ∷ []) ≡ decided_in its
 decided-held [] w d m h = cc
 decided-held (stray e n ∷ its) w d m h =
     let v = one_later-some (open_exchange_in its) w h in
@@ -111,18 +113,22 @@ joined its x (Some w) r h =
       ]
     ]
 
-more : (its : List ItemValue) (x : Message) → decided_in (items_with its x) ≡ decided_in its ++ decided_by (decider-by (open_exchange_in its) (held_in its)) x
+more : (its : List ItemValue) (x : Message) → decided_in (items_with its x)
+    ≡ decided_in its ++ decided_by (decider-by (open_exchange_in its) (held_in its)) x
 more its x =
     elim (cases_Bool (is_tester_request x)) [
-      | inl e ↦ rw e (decided-request its x.1 ∙ sym (whole its) ∙ ap (λ o. decided_in its ++ exchange_items o None (held_in its)) (open-request-waits its))
-      | inr e ↦ (ap decided_in (let by : items_with its x ≡ items_with_other (open_exchange_in its) its x = rw e refl in by) ∙ joined its x (open_exchange_in its) e refl)
+      | inl e ↦ rw e (decided-request its x.1 ∙ sym (whole its)
+          ∙ ap (λ o. decided_in its ++ exchange_items o None (held_in its)) (open-request-waits its))
+      | inr e ↦ (ap decided_in (let by : items_with its x ≡ items_with_other (open_exchange_in its) its x = rw e refl in by)
+          ∙ joined its x (open_exchange_in its) e refl)
     ]
 
 -- what one more message decides, by what a decider keeps
 pub decided-by : (M : List Message) (x : Message) (d : DeciderValue) → d ≡ decider_after M → AreDecidedBy M x (decided_by d x)
 decided-by M x d is =
     ap decided_in (meaning-append M x) ∙ more (meaning M) x
-    ∙ ap (λ (o : Option (List ℕ)). let s : DeciderValue = record { request = o; holds = held M } in decided M ++ decided_by s x) (sym (open-request-waits (meaning M)))
+    ∙ ap (λ (o : Option (List ℕ)). let s : DeciderValue = record { request = o; holds = held M } in decided M ++ decided_by s x)
+    (sym (open-request-waits (meaning M)))
     ∙ ap (λ s. decided M ++ decided_by s x) (sym is)
 
 pub decided_then_undecided : DecidedThenUndecided
@@ -134,7 +140,8 @@ decided_grows M (x ∷ N) =
     let later = decided_grows (M ++ x ∷ []) N in
     let now = decided_by (decider_after M) x in (
       now ++ later.0,
-      ap decided (sym (append_assoc M (x ∷ []) N)) ∙ later.1 ∙ ap (λ l. l ++ later.0) (decided-by M x (decider_after M) refl) ∙ append_assoc (decided M) now later.0,
+      ap decided (sym (append_assoc M (x ∷ []) N)) ∙ later.1 ∙ ap (λ l. l ++ later.0) (decided-by M x (decider_after M) refl)
+          ∙ append_assoc (decided M) now later.0,
     )
 
 pub undecided_must_wait : UndecidedMustWait

@@ -36,10 +36,12 @@ keeps-next M x =
     (λ i. record { request = request i; holds = holds i })
 
 -- by the step that was found
-pub keeps-found : (M : List Message) (x : Message) (s : Step) (d : DeciderValue) → d ≡ decider_after M → s ≡ step_after M x → decider_after_step s d x ≡ decider_after (M ++ x ∷ [])
+pub keeps-found : (M : List Message) (x : Message) (s : Step) (d : DeciderValue) → d ≡ decider_after M → s ≡ step_after M x
+    → decider_after_step s d x ≡ decider_after (M ++ x ∷ [])
 keeps-found M x s d is step_is = (λ i. decider_after_step (step_is i) (is i) x) ∙ keeps-next M x
 
-pub decided-found : (M : List Message) (x : Message) (s : Step) (d : DeciderValue) → d ≡ decider_after M → s ≡ step_after M x → AreDecidedBy M x (decided_for s d x)
+pub decided-found : (M : List Message) (x : Message) (s : Step) (d : DeciderValue) → d ≡ decider_after M → s ≡ step_after M x
+    → AreDecidedBy M x (decided_for s d x)
 decided-found M x s d is step_is = decided-by M x (decider_after M) refl ∙ (λ i. decided M ++ decided_for (sym step_is i) (sym is i) x)
 
 -- a message that is no request does not become one

@@ -51,7 +51,8 @@ pub early-stray : (its : List ItemValue) (d : Dir) (m : List ℕ) → open_excha
     → (early_in (its ++ stray d m ∷ []) ≡ flattened its ++ (d, m) ∷ []) × (held_in (its ++ stray d m ∷ []) ≡ [])
 early-stray [] d m h = (refl, refl)
 early-stray (stray e n ∷ its) d m h = let rest = early-stray its d m (one_later-none _ h) in (ap (λ l. (e, n) ∷ l) rest.0, rest.1)
-early-stray (exchange q (Some a) ∷ its) d m h = let rest = early-stray its d m (one_later-none _ h) in (ap (λ l. (Tester, q) ∷ (Unit, a) ∷ l) rest.0, rest.1)
+early-stray (exchange q (Some a) ∷ its) d m h = let rest = early-stray its d m (one_later-none _ h) in
+    (ap (λ l. (Tester, q) ∷ (Unit, a) ∷ l) rest.0, rest.1)
 early-stray (exchange q None ∷ its) d m h =
     elim (cases_Bool (has_exchange its)) [
       | inl e ↦
@@ -91,7 +92,8 @@ early-kept (exchange q None ∷ its) w d m h =
 
 -- the request that waits gets its answer
 pub early-answered : (its : List ItemValue) (w : ℕ × List ℕ) (a : List ℕ) → open_exchange_in its ≡ Some w
-    → (early_in (slice_set its w.0 (exchange w.1 (Some a))) ≡ early_in its ++ (Unit, a) ∷ held_in its) × (held_in (slice_set its w.0 (exchange w.1 (Some a))) ≡ [])
+    → (early_in (slice_set its w.0 (exchange w.1 (Some a))) ≡ early_in its ++ (Unit, a) ∷ held_in its)
+    × (held_in (slice_set its w.0 (exchange w.1 (Some a))) ≡ [])
 early-answered [] w a h = cc
 early-answered (stray e n ∷ its) w a h =
     let v = one_later-some (open_exchange_in its) w h in

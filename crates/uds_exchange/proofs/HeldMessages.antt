@@ -5,16 +5,19 @@ use Rattle.std.proofs.lemmas.List.Sums.{sum_by-cons}
 use Rattle.direction.specs.Dir.{Message}
 use Rattle.uds_exchange.specs.declared.held.HeldMessage.{HeldMessage}
 use Rattle.uds_exchange.specs.Blocks.{bytes_at, IsInside, Holds, GoesOn}
-use Rattle.uds_exchange.specs.proving.HeldMessages.{span_of, message_at, messages_at, message_length, AreHeldIn, AreHeldAndSummed}
+use Rattle.uds_exchange.specs.Order.{message_length}
+use Rattle.uds_exchange.specs.proving.HeldMessages.{span_of, message_at, messages_at, AreHeldIn, AreHeldAndSummed}
 use Rattle.uds_exchange.proofs.InBlocks.{inside-on, bytes_at-on}
 
-pub held-at : (blocks : List (List ℕ)) (held : List HeldMessage) (i : ℕ) (d : HeldMessage) → AreHeldIn blocks held → i < length held → IsInside blocks (span_of (get_or held i d))
+pub held-at : (blocks : List (List ℕ)) (held : List HeldMessage) (i : ℕ) (d : HeldMessage) → AreHeldIn blocks held → i < length held
+    → IsInside blocks (span_of (get_or held i d))
 held-at blocks [] i d all below = absurd (omega arith)
 held-at blocks (first ∷ later) zero d all below = all.0
 held-at blocks (first ∷ later) (suc i) d all below = held-at blocks later i d all.1 (omega arith)
 
 -- the next message to put
-pub next-held : (blocks : List (List ℕ)) (held : List HeldMessage) (i : ℕ) (d : HeldMessage) (m : List ℕ) → i < length held → m ≡ bytes_at blocks (span_of (get_or held i d))
+pub next-held : (blocks : List (List ℕ)) (held : List HeldMessage) (i : ℕ) (d : HeldMessage) (m : List ℕ) → i < length held
+    → m ≡ bytes_at blocks (span_of (get_or held i d))
     → messages_at blocks (drop i held) ≡ ((get_or held i d).dir, m) ∷ messages_at blocks (drop (i + 1) held)
 next-held blocks held i d m below is = ap (messages_at blocks) (drop_more held i d below) ∙ rw is refl
 
@@ -31,7 +34,8 @@ module _ (old new : List (List ℕ)) (on : GoesOn old new) where
   held-push [] one all inside = (inside, tt)
   held-push (first ∷ later) one all inside = (inside-on old new on (span_of first) all.0, held-push later one all.1 inside)
 
-  module _ (held grown : List HeldMessage) (all : AreHeldIn old held) (one : HeldMessage) (is : grown ≡ held ++ one ∷ []) (m : List ℕ) (laid : Holds new (span_of one) m) where
+  module _ (held grown : List HeldMessage) (all : AreHeldIn old held) (one : HeldMessage) (is : grown ≡ held ++ one ∷ []) (m : List ℕ)
+      (laid : Holds new (span_of one) m) where
     pub pushed : messages_at new grown ≡ messages_at old held ++ (one.dir, m) ∷ []
     pushed =
         ap (messages_at new) is
@@ -39,7 +43,8 @@ module _ (old new : List (List ℕ)) (on : GoesOn old new) where
         ∙ ap (λ l. l ++ message_at new one ∷ []) (messages-on held all)
         ∙ ap (λ b. messages_at old held ++ (one.dir, b) ∷ []) laid.bytes
 
-    pub pushed-held : (total more : ℕ) → total ≡ sum_by message_length (messages_at old held) → more ≡ total + length m → AreHeldAndSummed new grown more
+    pub pushed-held : (total more : ℕ) → total ≡ sum_by message_length (messages_at old held) → more ≡ total + length m
+        → AreHeldAndSummed new grown more
     pushed-held total more was sum = record {
       inside = rw is (held-push held one all laid.inside);
       sum = sum ∙ ap (λ n. n + length m) was ∙ sym (sum-push (messages_at old held) (one.dir, m)) ∙ ap (sum_by message_length) (sym pushed);

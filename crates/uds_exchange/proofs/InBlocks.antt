@@ -13,7 +13,11 @@ set-goes-on : (old : List (List ℕ)) (k : ℕ) (more : List ℕ) → k < length
 set-goes-on old k more below = record {
   blocks = omega (arith, length-set old k (block_at old k ++ more));
   bytes = λ n. elim (cases_eq n k) [
-    | inl e ↦ (more, subst (λ i. block_at (slice_set old k (block_at old k ++ more)) i ≡ block_at old i ++ more) (sym e) (get_or-set_same old k (block_at old k ++ more) [] below))
+    | inl e ↦ (
+      more,
+      subst (λ i. block_at (slice_set old k (block_at old k ++ more)) i ≡ block_at old i ++ more) (sym e)
+          (get_or-set_same old k (block_at old k ++ more) [] below),
+    )
     | inr d ↦ ([], get_or-set_other old k n (block_at old k ++ more) [] d ∙ sym (append-nil (block_at old n)))
   ];
 }
@@ -31,7 +35,8 @@ at-length [] one = refl
 at-length (first ∷ later) one = at-length later one
 
 -- what lies at the end of a block
-holds-behind : (blocks : List (List ℕ)) (span : Span) (front message : List ℕ) → span.block < length blocks → block_at blocks span.block ≡ front ++ message
+holds-behind : (blocks : List (List ℕ)) (span : Span) (front message : List ℕ) → span.block < length blocks
+    → block_at blocks span.block ≡ front ++ message
     → span.start ≡ length front → span.len ≡ length message → Holds blocks span message
 holds-behind blocks span front message below is start len = record {
   inside = record { block = below; end = omega (arith, ap length is, length-append front message, start, len) };
@@ -47,7 +52,8 @@ lays-in-first first later number span message new zeroth is at = record {
 }
 
 -- a message behind what is in a later one
-module _ (first : Vec ℕ Global) (later : List (Vec ℕ Global)) (k : ℕ) (below : k < length later) (block new : Vec ℕ Global) (there : block ≡ get_or later k block) where
+module _ (first : Vec ℕ Global) (later : List (Vec ℕ Global)) (k : ℕ) (below : k < length later) (block new : Vec ℕ Global)
+    (there : block ≡ get_or later k block) where
   set-bytes : block_bytes (slice_set later k new) ≡ slice_set (block_bytes later) k new.items
   set-bytes = map-set (λ (b : Vec ℕ Global). b.items) later k new
 

@@ -39,7 +39,8 @@ join-length : (its : List ItemValue) (x : Message) → length (items_with its x)
 join-length its x =
     elim (cases_Bool (is_tester_request x)) [
       | inl e ↦ rw e (one-longer its (exchange x.1 None))
-      | inr e ↦ (ap length (let j : items_with its x ≡ items_with_other (open_exchange_in its) its x = rw e refl in j) ∙ join-by-length its x (open_exchange_in its) e)
+      | inr e ↦ (ap length (let j : items_with its x ≡ items_with_other (open_exchange_in its) its x = rw e refl in j)
+          ∙ join-by-length its x (open_exchange_in its) e)
     ]
 
 pub items-next : (M : List Message) (x : Message) → length (meaning (M ++ x ∷ [])) ≡ item_count_after_step (step_after M x) (length (meaning M))
@@ -97,7 +98,8 @@ left-out (Some request) (dir.Unit, bytes) =
       | inr e ↦ elim (cases_Bool (is_pending_for (sid request) bytes)) [ inl q ↦ rw (e, q) refl | inr q ↦ rw (e, q) refl ]
     ]
 
-pub removed-next : (M : List Message) (x : Message) → length (removed_messages (M ++ x ∷ [])) ≡ length (removed_messages M) + left-out-by (step_after M x)
+pub removed-next : (M : List Message) (x : Message) → length (removed_messages (M ++ x ∷ []))
+    ≡ length (removed_messages M) + left-out-by (step_after M x)
 removed-next M x =
     ap length (removed_go_on M x) ∙ length-append (removed_messages M) (removed_with (open_request M) x)
     ∙ ap (λ n. length (removed_messages M) + n) (left-out (open_request M) x)

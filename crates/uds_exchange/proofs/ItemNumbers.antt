@@ -76,7 +76,8 @@ opened-later place (Some request) = refl
 open-place : (items : List ItemValue) → open_exchange_in items ≡ opened (length (decided_in items)) (open_request_in items)
 open-place [] = refl
 open-place (stray d bytes ∷ later) = ap one_later (open-place later) ∙ opened-later (length (decided_in later)) (open_request_in later)
-open-place (exchange request (Some reply) ∷ later) = ap one_later (open-place later) ∙ opened-later (length (decided_in later)) (open_request_in later)
+open-place (exchange request (Some reply) ∷ later) = ap one_later (open-place later)
+    ∙ opened-later (length (decided_in later)) (open_request_in later)
 open-place (exchange request None ∷ later) =
     elim (cases_Bool (has_exchange later)) [
       | inl e ↦ rw e (ap one_later (open-place later) ∙ opened-later (length (decided_in later)) (open_request_in later))
@@ -123,7 +124,14 @@ module _ (M : List Message) (x : Message) where
       let number = open-number M request is in
       let there = open-stands M request is in
       elim (cases_Bool (is_answer_to request x)) [
-        | inl e ↦ rw e (length (decided M), exchange request (Some x.1), number, set-there items (length (decided M)) (exchange request None) (exchange request (Some x.1)) there, (request, refl))
+        | inl e ↦ rw e (
+          length (decided M),
+          exchange request (Some x.1),
+          number,
+          set-there items (length (decided M)) (exchange request None)
+              (exchange request (Some x.1)) there,
+          (request, refl),
+        )
         | inr e ↦ elim (cases_Bool (is_pending_reply_to request x)) [
           | inl p ↦ rw (e, p) (length (decided M), exchange request None, number, there, (request, (None, refl), p))
           | inr p ↦ rw (e, p) stray-has

@@ -79,12 +79,14 @@ sides-kept step.Hold judge seen = refl
 sides-kept step.Pass judge seen = refl
 
 -- and so is what tells exchanged sides
-pub sides-found : (M : List Message) (x : Message) (judge now : Judge) (s : Step) (seen : Sides) → judge.sides ≡ sides_of M → seen ≡ noted x judge.sides
+pub sides-found : (M : List Message) (x : Message) (judge now : Judge) (s : Step) (seen : Sides) → judge.sides ≡ sides_of M
+    → seen ≡ noted x judge.sides
     → now ≡ judge_after_step s (record judge { sides = seen }) → now.sides ≡ sides_of (M ++ x ∷ [])
 sides-found M x judge now s seen were seen_is now_is =
     ap (λ (j : Judge). j.sides) now_is ∙ sides-kept s judge seen ∙ seen_is ∙ ap (noted x) were ∙ sides-next M x
 
-number-by : (s : Step) (M : List Message) (judge : Judge) (seen : Sides) → length M < 2 ^ 62 → HasCounted M judge → number_in s (record judge { sides = seen }) ≡ number_by s M
+number-by : (s : Step) (M : List Message) (judge : Judge) (seen : Sides) → length M < 2 ^ 62 → HasCounted M judge
+    → number_in s (record judge { sides = seen }) ≡ number_by s M
 number-by (step.Request service) M judge seen few counts = let few_items = few-items M in let is = counts.items in omega arith
 number-by step.Answer M judge seen few counts = let items_are = counts.items in let held_are = counts.held_count in omega arith
 number-by step.Removed M judge seen few counts = let items_are = counts.items in let held_are = counts.held_count in omega arith
@@ -92,18 +94,21 @@ number-by step.Hold M judge seen few counts = let few_items = few-items M in let
 number-by step.Pass M judge seen few counts = let few_items = few-items M in let is = counts.items in omega arith
 
 -- what becomes of it
-pub step-found : (M : List Message) (x : Message) (judge : Judge) (s : Step) → IsOpenSid M judge.open_sid → s ≡ step_of judge.open_sid x → s ≡ step_after M x
+pub step-found : (M : List Message) (x : Message) (judge : Judge) (s : Step) → IsOpenSid M judge.open_sid → s ≡ step_of judge.open_sid x
+    → s ≡ step_after M x
 step-found M x judge s waits s_is = s_is ∙ ap (λ o. step_of o x) waits
 
 -- which request waits then
-waits-by : (s : Step) (judge : Judge) (seen : Sides) → (judge_after_step s (record judge { sides = seen })).open_sid ≡ open_sid_after_step s judge.open_sid
+waits-by : (s : Step) (judge : Judge) (seen : Sides) → (judge_after_step s (record judge { sides = seen })).open_sid
+    ≡ open_sid_after_step s judge.open_sid
 waits-by (step.Request service) judge seen = refl
 waits-by step.Answer judge seen = refl
 waits-by step.Removed judge seen = refl
 waits-by step.Hold judge seen = refl
 waits-by step.Pass judge seen = refl
 
-pub waits-found : (M : List Message) (x : Message) (judge now : Judge) (s : Step) (seen : Sides) → IsOpenSid M judge.open_sid → s ≡ step_of judge.open_sid x
+pub waits-found : (M : List Message) (x : Message) (judge now : Judge) (s : Step) (seen : Sides) → IsOpenSid M judge.open_sid
+    → s ≡ step_of judge.open_sid x
     → now ≡ judge_after_step s (record judge { sides = seen }) → IsOpenSid (M ++ x ∷ []) now.open_sid
 waits-found M x judge now s seen waits s_is now_is =
     let found = step-found M x judge s waits s_is in

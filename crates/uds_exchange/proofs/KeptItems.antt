@@ -14,7 +14,8 @@ use Rattle.uds_exchange.proofs.InBlocks.{inside-on, bytes_at-on}
 pub length-items_at : (blocks : List (List ℕ)) (items : List KeptItem) → length (items_at blocks items) ≡ length items
 length-items_at blocks items = length-map items (item_at blocks)
 
-pub kept-at : (blocks : List (List ℕ)) (items : List KeptItem) (i : ℕ) (it : KeptItem) → AreKeptIn blocks items → i < length items → it ≡ get_or items i it → IsKeptIn blocks it
+pub kept-at : (blocks : List (List ℕ)) (items : List KeptItem) (i : ℕ) (it : KeptItem) → AreKeptIn blocks items → i < length items
+    → it ≡ get_or items i it → IsKeptIn blocks it
 kept-at blocks [] i it all below is = absurd (omega arith)
 kept-at blocks (first ∷ later) zero it all below is = rw is all.0
 kept-at blocks (first ∷ later) (suc i) it all below is = kept-at blocks later i it all.1 (omega arith) is
@@ -76,7 +77,8 @@ module _ (old new : List (List ℕ)) (on : GoesOn old new) where
           → items_at new (slice_set items i now) ≡ slice_set (items_at old items) i (exchange request (Some answer))
       answered-items now request answer span held answered found =
           let here : item_at old it ≡ exchange request None =
-          same_Some _ _ (sym (slice_get-map (item_at old) items i ∙ ap (option_map (item_at old)) (slice_get_read items (length items) i it refl below there)) ∙ found) in
+          same_Some _ _ (sym (slice_get-map (item_at old) items i
+          ∙ ap (option_map (item_at old)) (slice_get_read items (length items) i it refl below there)) ∙ found) in
           let at = request-of old it request here in
           let its = subst (λ p. IsKeptIn old p) at.1 (kept-at old items i it all below there) in
           let means : item_at new now ≡ exchange request (Some answer) =

@@ -45,7 +45,8 @@ pub no-strays : (o : List Message) → (has_exchange (map stray_of o) ≡ false)
 no-strays [] = (refl, refl)
 no-strays (x ∷ o) = ((no-strays o).0, ap one_later (no-strays o).1)
 
-pub open_exchange-cons : (a : ItemValue) (its : List ItemValue) → has_exchange its ≡ true → open_exchange_in (a ∷ its) ≡ one_later (open_exchange_in its)
+pub open_exchange-cons : (a : ItemValue) (its : List ItemValue) → has_exchange its ≡ true
+    → open_exchange_in (a ∷ its) ≡ one_later (open_exchange_in its)
 open_exchange-cons (stray d m) its h = refl
 open_exchange-cons (exchange r (Some b)) its h = refl
 open_exchange-cons (exchange r None) its h = rw h refl
@@ -151,7 +152,8 @@ meaning-append-by b [] x =
     elim (cases_Bool (is_tester_request x)) [
       | inl e ↦ rw e (ap (λ l. l ++ exchange x.1 None ∷ []) (sym (append-nil (map stray_of b))))
       | inr e ↦
-          (let plain : map stray_of b ++ stray_of x ∷ [] ≡ items_with_other (open_exchange_in (map stray_of b)) (map stray_of b) x = rw (no-strays b).1 refl in
+          (let plain : map stray_of b ++ stray_of x ∷ [] ≡ items_with_other (open_exchange_in (map stray_of b)) (map stray_of b) x = rw
+          (no-strays b).1 refl in
           rw e (append-nil _ ∙ stray_of-append b x ∙ plain ∙ ap (λ l. items_with_other (open_exchange_in l) l x) (sym (append-nil (map stray_of b)))))
     ]
 meaning-append-by b (p ∷ ps) x =

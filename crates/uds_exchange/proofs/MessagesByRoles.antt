@@ -26,7 +26,8 @@ only-roles past (x ∷ xs) [] h = absurd h
 only-roles past (x ∷ xs) (role ∷ roles) h =
     ap (λ r. r ∷ roles) (only-role past x role h.0) ∙ ap (λ l. role_behind past x ∷ l) (only-roles (past ++ x ∷ []) xs roles h.1)
 
-pub each-has-roles : (M : List Message) → (roles : List MessageRole) × AreRoles [] M roles × ((others : List MessageRole) → AreRoles [] M others → others ≡ roles)
+pub each-has-roles : (M : List Message) → (roles : List MessageRole) × AreRoles [] M roles
+    × ((others : List MessageRole) → AreRoles [] M others → others ≡ roles)
 each-has-roles M = (roles_of [] M, are-roles [] M, only-roles [] M)
 
 those-cons : (x : Message) (xs : List Message) (role : MessageRole) (roles : List MessageRole)
@@ -39,7 +40,11 @@ those-cons x xs as_stray roles = refl
 pub by-roles : (past xs : List Message) (roles : List MessageRole) → AreRoles past xs roles
     → (flattened (meaning (past ++ xs)) ≡ arranged (flattened (meaning past)) xs roles)
     × (removed_messages (past ++ xs) ≡ removed_messages past ++ those_removed xs roles)
-by-roles past [] [] h = (ap (λ l. flattened (meaning l)) (append-nil past), ap removed_messages (append-nil past) ∙ sym (append-nil (removed_messages past)))
+by-roles past [] [] h = (
+  ap (λ l. flattened (meaning l)) (append-nil past),
+  ap removed_messages (append-nil past)
+      ∙ sym (append-nil (removed_messages past)),
+)
 by-roles past [] (role ∷ roles) h = absurd h
 by-roles past (x ∷ xs) [] h = absurd h
 by-roles past (x ∷ xs) (role ∷ roles) h =

@@ -45,7 +45,8 @@ module _ (past : List Message) (x : Message) where
         | inr e ↦ rw e (has-role-by e (open_exchange_in (meaning past)) refl)
       ]
 
-  stray-by : (o : Option (ℕ × List ℕ)) → open_exchange_in (meaning past) ≡ o → ¬ AnswersOpen past x → ¬ IsPendingForOpen past x → as_stray ≡ role_by o x
+  stray-by : (o : Option (ℕ × List ℕ)) → open_exchange_in (meaning past) ≡ o → ¬ AnswersOpen past x → ¬ IsPendingForOpen past x
+      → as_stray ≡ role_by o x
   stray-by None h a q = refl
   stray-by (Some w) h a q =
       elim (cases_Bool (is_answer_to w.1 x)) [

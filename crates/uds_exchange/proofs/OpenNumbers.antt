@@ -7,8 +7,8 @@ use Rattle.uds_exchange.specs.Meaning.{is_from_tester, is_tester_request, meanin
 use Rattle.uds_exchange.specs.Order.{held, open_request}
 use Rattle.uds_exchange.specs.OneMessage.{step_of}
 use Rattle.uds_exchange.specs.proving.Steps.{open_sid_after_step, held_after_step}
-use Rattle.uds_exchange.specs.Judging.{step_after, number_by, number_after, open_number_if_any}
-use Rattle.uds_exchange.specs.proving.ItemNumbers.{item_count_after_step, open_number_after_step}
+use Rattle.uds_exchange.specs.Judging.{step_after, number_by, number_after}
+use Rattle.uds_exchange.specs.proving.ItemNumbers.{open_number_if_any, item_count_after_step, open_number_after_step}
 use Rattle.uds_exchange.specs.declared.step.Step.{Step}
 use Rattle.uds_exchange.specs.declared.step.Step.TheVariants as step
 use Rattle.uds_exchange.proofs.HeldOfMore.{open-sid-next, held-next}
@@ -42,7 +42,8 @@ passed-by None items held_ones x is = refl
 passed-by (Some service) items held_ones x is = absurd (never-passes service x is)
 
 number-by-step : (s : Step) (M : List Message) (x : Message) → step_after M x ≡ s
-    → number-of (open_sid_after_step s (option_map sid (open_request M))) (held_after_step s (held M) x) (item_count_after_step s (length (meaning M)))
+    → number-of (open_sid_after_step s (option_map sid (open_request M))) (held_after_step s (held M) x)
+    (item_count_after_step s (length (meaning M)))
     ≡ open_number_after_step s (number_by s M) (open_number_if_any M)
 number-by-step (step.Request service) M x is = ap (λ n. Some n) (omega arith)
 number-by-step step.Answer M x is = refl
@@ -50,6 +51,7 @@ number-by-step step.Removed M x is = refl
 number-by-step step.Hold M x is = held-on (option_map sid (open_request M)) (length (meaning M)) (held M) x
 number-by-step step.Pass M x is = passed-by (option_map sid (open_request M)) (length (meaning M)) (length (held M)) x is
 
-pub waits-next : (M : List Message) (x : Message) → open_number_if_any (M ++ x ∷ []) ≡ open_number_after_step (step_after M x) (number_after M x) (open_number_if_any M)
+pub waits-next : (M : List Message) (x : Message) → open_number_if_any (M ++ x ∷ [])
+    ≡ open_number_after_step (step_after M x) (number_after M x) (open_number_if_any M)
 waits-next M x =
     (λ i. number-of (open-sid-next M x i) (held-next M x i) (items-next M x i)) ∙ number-by-step (step_after M x) M x refl

@@ -37,7 +37,8 @@ waits-with : (its : List ItemValue) (x : Message) → request_of (open_exchange_
 waits-with its x =
     elim (cases_Bool (is_tester_request x)) [
       | inl e ↦ (let begun : items_with its x ≡ its ++ exchange x.1 None ∷ [] = rw e refl in
-          ap (λ l. request_of (open_exchange_in l)) begun ∙ ap request_of (open_exchange-request its x.1) ∙ request-opens (request_of (open_exchange_in its)) x e)
+          ap (λ l. request_of (open_exchange_in l)) begun ∙ ap request_of (open_exchange-request its x.1)
+          ∙ request-opens (request_of (open_exchange_in its)) x e)
       | inr e ↦ (let by : items_with its x ≡ items_with_other (open_exchange_in its) its x = rw e refl in
           ap (λ l. request_of (open_exchange_in l)) by ∙ waits-by its x (open_exchange_in its) e refl)
     ]
@@ -65,4 +66,5 @@ removed-by-role (Some w) (dir.Unit, bytes) =
 pub removed_go_on : RemovedGoOn
 removed_go_on M x =
     removed_messages-append M x
-    ∙ ap (λ l. removed_messages M ++ l) (removed-by-role (open_exchange_in (meaning M)) x ∙ ap (λ o. removed_with o x) (sym (open-request-waits (meaning M))))
+    ∙ ap (λ l. removed_messages M ++ l) (removed-by-role (open_exchange_in (meaning M)) x
+    ∙ ap (λ o. removed_with o x) (sym (open-request-waits (meaning M))))

@@ -38,7 +38,8 @@ waits-over past (x ∷ xs) w h r a =
 pub waits-open : (past : List Message) (r : List ℕ) → IsOpenBehind past r → (k : ℕ) × (open_exchange_in (meaning past) ≡ Some (k, r))
 waits-open past r o =
     let place = length (meaning o.earlier) in
-    let here : open_exchange_in (items_with (meaning o.earlier) (Tester, r)) ≡ Some (place, r) = rw o.is_one (open_exchange-request (meaning o.earlier) r) in
+    let here : open_exchange_in (items_with (meaning o.earlier) (Tester, r))
+    ≡ Some (place, r) = rw o.is_one (open_exchange-request (meaning o.earlier) r) in
     let first = ap open_exchange_in (meaning-append o.earlier (Tester, r)) ∙ here in
     let whole = waits-over (o.earlier ++ (Tester, r) ∷ []) o.since (place, r) first o.is_last o.is_unanswered in
     let split = o.place ∙ sym (append_assoc o.earlier ((Tester, r) ∷ []) o.since) in
@@ -72,7 +73,8 @@ open-request past x e = record {
 abbrev Opens : List Message → Type 0
 Opens past = (w : ℕ × List ℕ) → open_exchange_in (meaning past) ≡ Some w → IsOpenBehind past w.1
 
-opens-by : (past : List Message) (x : Message) (o : Option (ℕ × List ℕ)) → Opens past → is_tester_request x ≡ false → open_exchange_in (meaning past) ≡ o
+opens-by : (past : List Message) (x : Message) (o : Option (ℕ × List ℕ)) → Opens past → is_tester_request x ≡ false
+    → open_exchange_in (meaning past) ≡ o
     → (w : ℕ × List ℕ) → open_exchange_in (items_with_other o (meaning past) x) ≡ Some w → IsOpenBehind (past ++ x ∷ []) w.1
 opens-by past x None s r h w e = absurd (none-some _ (sym h ∙ sym (open_exchange-stray (meaning past) x.0 x.1) ∙ e))
 opens-by past x (Some v) s r h w e =

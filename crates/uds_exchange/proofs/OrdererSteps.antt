@@ -37,7 +37,8 @@ early-due M x =
     early-append M x
     ∙ ap (λ l. early M ++ l) (sym (due-same (meaning M) x) ∙ ap (λ o. due_for (step_of o x) (held M) x) (sym (open-sid-is M)))
 
-due-from : (M : List Message) (x : Message) (s : Step) (o : JudgedOrdererValue) → o ≡ judged_orderer_after M → s ≡ step_after M x → IsDue M x (due_for s o.holds x)
+due-from : (M : List Message) (x : Message) (s : Step) (o : JudgedOrdererValue) → o ≡ judged_orderer_after M → s ≡ step_after M x
+    → IsDue M x (due_for s o.holds x)
 due-from M x s o is step_is =
     early-due M x ∙ (λ i. early M ++ due_for (sym step_is i) (sym (ap (λ (q : JudgedOrdererValue). q.holds) is) i) x)
 
@@ -64,7 +65,8 @@ module _ {S E : Type 0} (after_ok : AfterOk S) (after_err : AfterErr S E) where
   puts-end s t u M h d =
       subst (λ (l : List Message). Puts after_ok s l u) (early-then-held M) (puts-append after_ok after_err s t u (early M) (held M) h d)
 
-  pub stops-due : (M : List Message) (x : Message) (by : Step) (o p : JudgedOrdererValue) (s t : S) (f : OrderFault E) → o ≡ judged_orderer_after M → by ≡ step_after M x
+  pub stops-due : (M : List Message) (x : Message) (by : Step) (o p : JudgedOrdererValue) (s t : S) (f : OrderFault E)
+      → o ≡ judged_orderer_after M → by ≡ step_after M x
       → Stops after_ok after_err by x o s p t f → StopsDue after_ok after_err M x s t f
   stops-due M x by o p s t fault.Memory is step_is h = h.2
   stops-due M x by o p s t (fault.Sink e) is step_is h = (due_for by o.holds x, due-from M x by o is step_is, h.2)

@@ -22,7 +22,8 @@ pub stands-with : (M : List Message) (x : Message) (judged : Judged) (orderer : 
     → orderer ≡ judged_orderer_after (M ++ sent judged ∷ []) → IsOpenSid (M ++ x ∷ []) open_sid
     → record { has_failed = orderer.has_failed; open_sid = open_sid; holds = orderer.holds } ≡ orderer_after (M ++ x ∷ [])
 stands-with M x judged orderer open_sid is stands waits =
-    ap (λ (o : JudgedOrdererValue). record { has_failed = o.has_failed; open_sid = open_sid; holds = o.holds }) (stands ∙ ap (λ y. judged_orderer_after (M ++ y ∷ [])) is)
+    ap (λ (o : JudgedOrdererValue). record { has_failed = o.has_failed; open_sid = open_sid; holds = o.holds })
+    (stands ∙ ap (λ y. judged_orderer_after (M ++ y ∷ [])) is)
     ∙ ap (λ s. record { has_failed = false; open_sid = s; holds = held (M ++ x ∷ []) }) waits
 
 -- and without its judge it stands after the same

@@ -15,7 +15,8 @@ use Rattle.uds_exchange.proofs.OpenExchange.{sid_of, open_exchange-stray, open_e
 use Rattle.uds_exchange.proofs.MeaningOfMore.{meaning-append}
 use Rattle.uds_exchange.proofs.HeldOfMore.{step-is}
 
-join_by-step : (its : List ItemValue) (w : Option (ℕ × List ℕ)) (x : Message) → items_with_other w its x ≡ items_after_step (step_if_open (sid_of w) x) w its x
+join_by-step : (its : List ItemValue) (w : Option (ℕ × List ℕ)) (x : Message)
+    → items_with_other w its x ≡ items_after_step (step_if_open (sid_of w) x) w its x
 join_by-step its None x = refl
 join_by-step its (Some w) x =
     elim (cases_Bool (is_answer_to w.1 x)) [
@@ -28,9 +29,11 @@ join-step its x =
     elim (cases_Bool (is_tester_request x)) [ inl e ↦ rw e refl | inr e ↦ rw e (join_by-step its (open_exchange_in its) x) ]
 
 -- the items with one more message, by the step that was found
-pub items-found : (M : List Message) (x : Message) (s : Step) (its : List ItemValue) → its ≡ meaning M → s ≡ step_after M x → items_after_step s (open_exchange_in its) its x ≡ meaning (M ++ x ∷ [])
+pub items-found : (M : List Message) (x : Message) (s : Step) (its : List ItemValue) → its ≡ meaning M → s ≡ step_after M x
+    → items_after_step s (open_exchange_in its) its x ≡ meaning (M ++ x ∷ [])
 items-found M x s its is step_is =
-    (λ i. items_after_step ((step_is ∙ sym (step-is M x)) i) (open_exchange_in (is i)) (is i) x) ∙ sym (join-step (meaning M) x) ∙ sym (meaning-append M x)
+    (λ i. items_after_step ((step_is ∙ sym (step-is M x)) i) (open_exchange_in (is i)) (is i) x) ∙ sym (join-step (meaning M) x)
+    ∙ sym (meaning-append M x)
 
 -- ---- the exchange that waits, by its place
 
@@ -69,8 +72,10 @@ module _ (its : List ItemValue) (place : ℕ) (kept : IsOpenPlace its (Some plac
       ∙ ap (option_map (λ v. v.0)) (open_exchange-answered its w.0 reply w.1)
 
 -- what is kept of a list with one more request, or one more stray
-pub kept-request : (its : List ItemValue) (request : List ℕ) (place : ℕ) → place ≡ length its → IsOpenPlace (its ++ exchange request None ∷ []) (Some place)
+pub kept-request : (its : List ItemValue) (request : List ℕ) (place : ℕ) → place ≡ length its
+    → IsOpenPlace (its ++ exchange request None ∷ []) (Some place)
 kept-request its request place is = ap (option_map (λ v. v.0)) (open_exchange-request its request) ∙ ap (λ n. Some n) (sym is)
 
-pub kept-stray : (its : List ItemValue) (open_place : Option ℕ) (x : Message) → IsOpenPlace its open_place → IsOpenPlace (its ++ stray_of x ∷ []) open_place
+pub kept-stray : (its : List ItemValue) (open_place : Option ℕ) (x : Message) → IsOpenPlace its open_place
+    → IsOpenPlace (its ++ stray_of x ∷ []) open_place
 kept-stray its open_place x kept = ap (option_map (λ v. v.0)) (open_exchange-stray its x.0 x.1) ∙ kept

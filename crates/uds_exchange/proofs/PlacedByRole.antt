@@ -99,7 +99,8 @@ placed-by its x (Some w) s h =
       ]
     ]
 
-pub flattened-meaning-append : (M : List Message) (x : Message) → flattened (meaning (M ++ x ∷ [])) ≡ placed (role_behind M x) (flattened (meaning M)) x
+pub flattened-meaning-append : (M : List Message) (x : Message)
+    → flattened (meaning (M ++ x ∷ [])) ≡ placed (role_behind M x) (flattened (meaning M)) x
 flattened-meaning-append M x =
     ap flattened (meaning-append M x) ∙ elim (cases_Bool (is_tester_request x)) [
       | inl e ↦ rw e (flattened-push (meaning M) (exchange x.1 None) x (ap (λ y. y ∷ []) (from-tester x e)))

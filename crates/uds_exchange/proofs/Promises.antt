@@ -33,10 +33,11 @@ pub use Rattle.uds_exchange.proofs.OpenNumbers.{waits-next as open_number_goes_o
 pub use Rattle.uds_exchange.proofs.HeldOfMore.{step-is as step_by_items}
 -- where a request is open, its exchange stands behind the items that are decided, and has the number of that place
 pub use Rattle.uds_exchange.proofs.ItemNumbers.{open-stands as open_exchange_stands, open-number as open_number_is_its_place}
--- the number that is judged of one more message is the place of its item, and the message has its part in that; so it is
--- whatever follows
+-- the number that is judged of one more message is the place of its item, and the message has its part in that; so it
+-- is whatever follows
 pub use Rattle.uds_exchange.proofs.ItemNumbers.{one-has as number_is_its_place, number-stays as number_stays_its_place}
--- what each item becomes with one more message (`EachBecomes`); and what holds of it, whatever it becomes, holds of it then
+-- what each item becomes with one more message (`EachBecomes`); and what holds of it, whatever it becomes, holds of it
+-- then
 pub use Rattle.uds_exchange.proofs.ItemNumbers.{one-grows as items_become, item-still as item_stays, begun-still as begun_stays}
 -- what stands at a place of a list stands there in a longer one
 pub use Rattle.uds_exchange.proofs.ListPlaces.{at-front as at_front}

@@ -24,10 +24,6 @@ next_number M = length (meaning M) + 1
 abbrev pub open_number : List Message → ℕ
 open_number M = length (meaning M) - length (held M)
 
--- the number of the open exchange, if one is open
-abbrev pub open_number_if_any : List Message → Option ℕ
-open_number_if_any M = option_map (λ service. open_number M) (option_map sid (open_request M))
-
 -- the number of the item of a message of which this becomes: a request or a stray is the next item, and an answer or a
 -- pending reply belongs to the open exchange
 abbrev pub number_by : Step → List Message → ℕ

@@ -1,4 +1,5 @@
--- The numbers of items: which item has a number, and which part a message has in an item, by what becomes of the message.
+-- The numbers of items: which item has a number, and which part a message has in an item, by what becomes of the
+-- message.
 use Rattle.std.specs.Prelude.{◌≡◌, ℕ, ◌+◌, true, List, slice_get, Option, Some}
 use Rattle.direction.specs.Dir.{Message}
 use Rattle.uds_exchange.specs.Meaning.{ItemValue, exchange, stray_of, is_pending_reply_to}

@@ -37,6 +37,10 @@ held M = held_in (meaning M)
 abbrev pub early : List Message → List Message
 early M = take (length (flattened (meaning M)) - length (held M)) (flattened (meaning M))
 
+-- how many bytes a message has
+abbrev pub message_length : Message → ℕ
+message_length message = length message.1
+
 -- the message of the unit that rejects a request: the negative response with the code generalReject (ISO 14229-1)
 abbrev pub rejection_of : List ℕ → Message
 rejection_of request = (dir.Unit, negative_response ∷ sid request ∷ 0x10 ∷ [])

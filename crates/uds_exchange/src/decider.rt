@@ -63,7 +63,8 @@ impl Decider {
 
         ensures err { OnErr result (self.new ≡ self.old) }
         ensures unput { OnErr result (sink.new ≡ sink.old) }
-        ensures needs { OnErr result ((M : List Message) → self.old ≡ decider_after M → IsJudgedAfter M message.entry → IsKept M (sent message.entry)) }
+        ensures needs { OnErr result ((M : List Message) → self.old ≡ decider_after M → IsJudgedAfter M message.entry
+            → IsKept M (sent message.entry)) }
     {
         self.advance(message, sink)
     }
@@ -80,10 +81,11 @@ impl Decider {
         put_exchange(&request, None, &held, sink);
     }
 
-    /// Takes one more message, by what becomes of it and what is kept alone.
+    /// Takes one more message, by what becomes of it and what is kept alone: `take` promises the same by the messages.
     fn advance<S: ItemSink>(&mut self, message: Judged<'_>, sink: &mut S) -> Result<(), AllocError>
         ensures now { OnOk result (self.new ≡ decider_after_step message.entry.step self.old (sent message.entry)) }
-        ensures puts { OnOk result (PutsItems S.takes sink.old (decided_for message.entry.step self.old (sent message.entry)) sink.new) }
+        ensures puts { OnOk result (PutsItems S.takes sink.old
+            (decided_for message.entry.step self.old (sent message.entry)) sink.new) }
         ensures err { OnErr result (self.new ≡ self.old) }
         ensures unput { OnErr result (sink.new ≡ sink.old) }
         ensures needs { OnErr result (Keeps message.entry.step) }
@@ -120,7 +122,10 @@ fn put_exchange<S: ItemSink>(
     held: &HeldMessages,
     sink: &mut S,
 )
-    ensures { PutsItems S.takes sink.old (exchange_items (option_map (λ bytes. bytes.items) request.now) (option_map (λ bytes. bytes.now) answer.entry) held.now) sink.new }
+    ensures { PutsItems S.takes sink.old
+        (exchange_items (option_map (λ bytes. bytes.items) request.now)
+        (option_map (λ bytes. bytes.now) answer.entry) held.now)
+        sink.new }
 {
     if let Some(request) = request {
         sink.put(Item::Exchange {

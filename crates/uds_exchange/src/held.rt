@@ -1,7 +1,8 @@
 //! Messages that wait behind the open request, with who sent them.
 
-ghost use Rattle.std.specs.Prelude.{◌≡◌, ◌++◌, ◌∷◌, [], OnOk, OnErr, IfErr, length, sum_by};
+ghost use Rattle.std.specs.Prelude.{◌≡◌, ◌++◌, ◌∷◌, [], OnOk, OnErr, IfErr, sum_by};
 ghost use Rattle.uds_exchange.specs.MessageSink.{Puts, Fails};
+ghost use Rattle.uds_exchange.specs.Order.{message_length};
 ghost use Rattle.uds_exchange.specs.proving.HeldMessages.{AreHeldIn, messages_at, span_of};
 
 use crate::message_sink::MessageSink;
@@ -69,7 +70,7 @@ impl HeldMessages {
 
     /// The sum of the messages' lengths.
     pub(crate) fn total_len(&self) -> usize
-        ensures { result ≡ sum_by (λ x. length x.1) self.now }
+        ensures { result ≡ sum_by message_length self.now }
     {
         self.total
     }
@@ -121,7 +122,8 @@ fn put_each<S: MessageSink>(
 ) -> Result<(), S::Fault>
     requires { AreHeldIn messages.now held.now }
     ensures ok { OnOk result (Puts S.after_ok sink.old (messages_at messages.now held.now) sink.new) }
-    ensures err { IfErr result (λ e. Fails S.after_ok S.after_err sink.old (messages_at messages.now held.now) e sink.new) }
+    ensures err { IfErr result (λ e. Fails S.after_ok S.after_err sink.old
+        (messages_at messages.now held.now) e sink.new) }
 {
     for one in held {
         sink.put(one.dir, messages.message(one.span()))?;

@@ -55,12 +55,17 @@ impl Judge {
     /// Judges one more message. Inlined: what a call answers in memory is read by covering loads.
     #[inline(always)]
     pub fn take<'a>(&mut self, dir: Dir, message: &'a [u8]) -> Judged<'a>
-        ensures next { (M : List Message) → length M < 2 ^ 62 → HasCounted M self.old → HasCounted (M ++ (dir, message.now) ∷ []) self.new }
+        ensures next { (M : List Message) → length M < 2 ^ 62 → HasCounted M self.old
+            → HasCounted (M ++ (dir, message.now) ∷ []) self.new }
         ensures sent { sent result ≡ (dir, message.now) }
-        ensures is_open { (M : List Message) → IsOpenSid M self.old.open_sid → IsOpenSid (M ++ (dir, message.now) ∷ []) self.new.open_sid }
-        ensures step { (M : List Message) → IsOpenSid M self.old.open_sid → result.step ≡ step_after M (dir, message.now) }
-        ensures item { (M : List Message) → length M < 2 ^ 62 → HasCounted M self.old → result.item_number ≡ number_after M (dir, message.now) }
-        ensures sides { (M : List Message) → self.old.sides ≡ sides_of M → self.new.sides ≡ sides_of (M ++ (dir, message.now) ∷ []) }
+        ensures is_open { (M : List Message) → IsOpenSid M self.old.open_sid
+            → IsOpenSid (M ++ (dir, message.now) ∷ []) self.new.open_sid }
+        ensures step { (M : List Message) → IsOpenSid M self.old.open_sid
+            → result.step ≡ step_after M (dir, message.now) }
+        ensures item { (M : List Message) → length M < 2 ^ 62 → HasCounted M self.old
+            → result.item_number ≡ number_after M (dir, message.now) }
+        ensures sides { (M : List Message) → self.old.sides ≡ sides_of M
+            → self.new.sides ≡ sides_of (M ++ (dir, message.now) ∷ []) }
     {
         let step = step_of(self.open_sid, dir, message);
         self.sides.note(step, dir, message);

@@ -1,9 +1,9 @@
 //! Messages put into their order as soon as it is known, by what becomes of each.
 
-ghost use Rattle.std.specs.Prelude.{◌≡◌, ◌≢◌, ◌++◌, ◌∷◌, [], List, true, false, length, OnOk, IfErr, sum_by};
+ghost use Rattle.std.specs.Prelude.{◌≡◌, ◌≢◌, ◌++◌, ◌∷◌, [], List, true, false, OnOk, IfErr, sum_by};
 ghost use Rattle.direction.specs.Dir.{Message};
 ghost use Rattle.uds_exchange.specs.Judging.{IsJudgedAfter, sent};
-ghost use Rattle.uds_exchange.specs.Order.{held as held_after};
+ghost use Rattle.uds_exchange.specs.Order.{held as held_after, message_length};
 ghost use Rattle.uds_exchange.specs.MessageSink.{Puts, Fails};
 ghost use Rattle.uds_exchange.specs.Orderer.{judged_orderer_after, PutsDue, IsHeld, StopsDue, StopsHeld};
 ghost use Rattle.uds_exchange.specs.proving.Ordering as Spec;
@@ -50,7 +50,7 @@ impl JudgedOrderer {
     /// The sum of the lengths of the messages that are held; 0 where no request is open, if each message was judged
     /// rightly. After a fault of the sink it says nothing.
     pub fn held(&self) -> u64
-        ensures { result ≡ sum_by (λ x. length x.1) self.now.holds }
+        ensures { result ≡ sum_by message_length self.now.holds }
     {
         self.held.total_len() as u64
     }
@@ -62,15 +62,16 @@ impl JudgedOrderer {
         message: Judged<'_>,
         sink: &mut S,
     ) -> Result<(), OrderFault<S::Fault>>
-        ensures stands { OnOk result ((M : List Message) → self.old ≡ judged_orderer_after M → IsJudgedAfter M message.entry
-            → self.new ≡ judged_orderer_after (M ++ sent message.entry ∷ [])) }
-        ensures puts { OnOk result ((M : List Message) → self.old ≡ judged_orderer_after M → IsJudgedAfter M message.entry
-            → PutsDue S.after_ok M (sent message.entry) sink.old sink.new) }
+        ensures stands { OnOk result ((M : List Message) → self.old ≡ judged_orderer_after M
+            → IsJudgedAfter M message.entry → self.new ≡ judged_orderer_after (M ++ sent message.entry ∷ [])) }
+        ensures puts { OnOk result ((M : List Message) → self.old ≡ judged_orderer_after M
+            → IsJudgedAfter M message.entry → PutsDue S.after_ok M (sent message.entry) sink.old sink.new) }
 
         ensures memory { result ≡ Err Memory → (self.new ≡ self.old) × (sink.new ≡ sink.old) }
-        ensures needs { result ≡ Err Memory → (M : List Message) → self.old ≡ judged_orderer_after M → IsJudgedAfter M message.entry
-            → IsHeld M (sent message.entry) }
-        ensures stops { IfErr result (λ fault. (M : List Message) → self.old ≡ judged_orderer_after M → IsJudgedAfter M message.entry
+        ensures needs { result ≡ Err Memory → (M : List Message) → self.old ≡ judged_orderer_after M
+            → IsJudgedAfter M message.entry → IsHeld M (sent message.entry) }
+        ensures stops { IfErr result (λ fault. (M : List Message) → self.old ≡ judged_orderer_after M
+            → IsJudgedAfter M message.entry
             → StopsDue S.after_ok S.after_err M (sent message.entry) sink.old sink.new fault) }
 
         ensures fails { (why : S.Fault) → result ≡ Err (Sink why) → self.new.has_failed ≡ true }
@@ -101,13 +102,14 @@ impl JudgedOrderer {
         }
     }
 
-    /// Takes one more message, by what becomes of it and what is held alone.
+    /// Takes one more message, by what becomes of it and what is held alone: `take` promises the same by the messages.
     fn advance<S: MessageSink>(
         &mut self,
         message: Judged<'_>,
         sink: &mut S,
     ) -> Result<(), OrderFault<S::Fault>>
-        ensures ok { OnOk result ((self.old.has_failed ≡ false) × (self.new ≡ Spec.orderer_after_step message.entry.step self.old (sent message.entry))
+        ensures ok { OnOk result ((self.old.has_failed ≡ false)
+            × (self.new ≡ Spec.orderer_after_step message.entry.step self.old (sent message.entry))
             × Puts S.after_ok sink.old (due_for message.entry.step self.old.holds (sent message.entry)) sink.new) }
         ensures err { IfErr result (λ fault. Stops S.after_ok S.after_err message.entry.step (sent message.entry)
             self.old sink.old self.new sink.new fault) }

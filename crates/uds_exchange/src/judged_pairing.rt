@@ -70,9 +70,12 @@ impl JudgedPairing {
     /// Where none is open, no answer is taken.
     #[inline(always)]
     fn advance(&mut self, message: Judged<'_>) -> Result<(), AllocError>
-        ensures ok { OnOk result (self.new ≡ Spec.items_after_step message.entry.step (open_exchange_in self.old) self.old (sent message.entry)) }
+        ensures ok { OnOk result (self.new
+            ≡ Spec.items_after_step message.entry.step (open_exchange_in self.old) self.old (sent message.entry)) }
         ensures err { OnErr result (self.new ≡ self.old) }
-        ensures needs { OnErr result (Spec.items_after_step message.entry.step (open_exchange_in self.old) self.old (sent message.entry) ≢ self.old) }
+        ensures needs { OnErr result
+            (Spec.items_after_step message.entry.step (open_exchange_in self.old) self.old (sent message.entry)
+            ≢ self.old) }
     {
         match message.step {
             Step::Request(_) => {

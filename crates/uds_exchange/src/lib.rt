@@ -15,16 +15,16 @@
 //! [`JudgedPairing`], a [`JudgedOrderer`] or a [`Decider`]. [`Pairing`] and [`Orderer`] have a judge of their own, for
 //! a caller that has messages alone.
 //!
-//! | Part | Files | Definitions |
+//! | What it answers | Files | Definitions |
 //! |---|---|---|
-//! | [`Pairing`], [`JudgedPairing`]: the [`Meaning`], a list of [`Item`]s | `pairing`, `judged_pairing`, `meaning`, `item` | `Meaning`, `ItemSeen`, `Difference` |
-//! | [`Orderer`], [`JudgedOrderer`]: the messages in order, each as soon as its place is known | `orderer`, `judged_orderer`, `held`, `message_sink`, `order_fault` | `Order`, `MessageSink`, `Orderer` |
-//! | [`Decider`]: the items, each as soon as it is decided | `decider`, `item_sink` | `Decided`, `ItemSink`, `Decider` |
+//! | [`Judge`]: a message's [`Step`], and its item's number | `judge`, `step` | `OneMessage`, `Judging`, `Numbers` |
+//! | [`Pairing`]: the [`Meaning`], in [`Item`]s | `pairing`, `meaning`, `item` | `Meaning`, `ItemSeen`, `Difference` |
+//! | [`MessageSink`], [`ItemSink`]: who takes what is put | `message_sink`, `item_sink` | `MessageSink`, `ItemSink` |
+//! | [`Orderer`]: the messages in order, each early | `orderer`, `held`, `order_fault` | `Order`, `Orderer` |
+//! | [`Decider`]: the items, each as soon as it is decided | `decider` | `Decided`, `Decider` |
 //! | [`Sides`]: whether tester and unit look exchanged | `sides` | `Exchanged` |
-//! | [`Judge`]: the [`Step`] of a message, and the number of its item | `judge`, `step` | `OneMessage`, `Judging` |
-//! | [`Messages`]: bytes that are kept, each message in the [`Span`] where it was laid | `messages` | `Blocks` |
+//! | [`Messages`]: bytes that are kept, each message in its [`Span`] | `messages` | `Blocks` |
 //! | [`laws`]: what holds of meanings, whatever computes them | `laws` | `Roles`, `Laws` |
-//! | what `{:?}` shows | `shown` | none |
 //!
 //! [`Messages`] knows of no exchange. It stands here because a [`Meaning`] and the messages that are held are kept in
 //! one; it is public for a caller that keeps messages with what else it knows of them, as the rows of a page are.

@@ -145,8 +145,10 @@ fn is_same(one: Option<Item<'_>>, other: Option<Item<'_>>) -> bool
 
 /// Gives an exchange its answer; a stray stays as it is.
 fn answer_with(item: &mut KeptItem, answer: Span)
-    ensures answered { (request : SpanValue) → item.old ≡ Exchange request None → item.new ≡ Exchange request (Some answer) }
-    ensures inside { (blocks : List (List ℕ)) → IsInside blocks answer → IsKeptIn blocks item.old → IsKeptIn blocks item.new }
+    ensures answered { (request : SpanValue) → item.old ≡ Exchange request None
+        → item.new ≡ Exchange request (Some answer) }
+    ensures inside { (blocks : List (List ℕ)) → IsInside blocks answer → IsKeptIn blocks item.old
+        → IsKeptIn blocks item.new }
 {
     if let KeptItem::Exchange { answer: kept, .. } = item {
         *kept = Some(answer);

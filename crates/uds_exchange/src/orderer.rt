@@ -1,8 +1,8 @@
 //! Messages put into their order as soon as it is known.
 
-ghost use Rattle.std.specs.Prelude.{◌≡◌, ◌≢◌, ◌++◌, ◌∷◌, [], List, true, length, Err, OnOk, IfErr, sum_by};
+ghost use Rattle.std.specs.Prelude.{◌≡◌, ◌≢◌, ◌++◌, ◌∷◌, [], List, true, Err, OnOk, IfErr, sum_by};
 ghost use Rattle.direction.specs.Dir.{Message};
-ghost use Rattle.uds_exchange.specs.Order.{held as held_after};
+ghost use Rattle.uds_exchange.specs.Order.{held as held_after, message_length};
 ghost use Rattle.uds_exchange.specs.MessageSink.{Puts};
 ghost use Rattle.uds_exchange.specs.Orderer.{orderer_after, PutsDue, IsHeld, StopsDue, StopsHeld};
 ghost use Rattle.uds_exchange.specs.declared.order_fault.OrderFault.TheVariants.{Memory, Sink, Failed};
@@ -28,7 +28,11 @@ impl Model for Orderer {
 
     ghost Value = { OrdererValue };
 
-    ghost view = { λ o. record { has_failed = o.orderer.has_failed; open_sid = o.judge.open_sid; holds = o.orderer.holds } };
+    ghost view = { λ o. record {
+      has_failed = o.orderer.has_failed;
+      open_sid = o.judge.open_sid;
+      holds = o.orderer.holds;
+    } };
 }
 
 impl Orderer {
@@ -45,7 +49,7 @@ impl Orderer {
     /// The sum of the lengths of the messages that are held; 0 where no request is open. After a fault of the sink it
     /// says nothing.
     pub fn held(&self) -> u64
-        ensures { result ≡ sum_by (λ x. length x.1) self.now.holds }
+        ensures { result ≡ sum_by message_length self.now.holds }
     {
         self.orderer.held()
     }

@@ -1,5 +1,4 @@
-//! What tells that tester and unit are exchanged: swapped, one side taken for the other. With an exchange, a request
-//! and its answer, the word has nothing to do.
+//! What tells that tester and unit are swapped (`Exchanged`).
 
 ghost use Rattle.std.specs.Prelude.{◌≡◌, [], List, ℕ, Option};
 ghost use Rattle.direction.specs.Dir.{Message};
@@ -38,7 +37,8 @@ impl Sides {
     /// Notes one more message, and what becomes of it.
     #[inline(always)]
     pub(crate) fn note(&mut self, step: Step, dir: Dir, message: &[u8])
-        ensures { (open_sid : Option ℕ) → step ≡ step_of open_sid (dir, message.now) → self.new ≡ noted (dir, message.now) self.old }
+        ensures { (open_sid : Option ℕ) → step ≡ step_of open_sid (dir, message.now)
+            → self.new ≡ noted (dir, message.now) self.old }
     {
         match step {
             Step::Request(_) => self.tester_asked = true,

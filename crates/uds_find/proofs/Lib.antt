@@ -1,9 +1,14 @@
 pub mod Results
 pub mod Orders
-pub mod Waiting
-pub mod Asking
+pub mod Tallies
 pub mod Counting
+pub mod Askers
+pub mod Answered
+pub mod Places
 pub mod Standing
+pub mod Firsts
+pub mod Listing
+pub mod Asking
 pub mod Needing
 pub mod Promises
 pub mod Sayings

@@ -1,3 +1,3 @@
--- The proof of a public law, under the name of its statement in specs/, for the crates above to cite. Nothing else of
--- proofs/ is for them.
-pub use Rattle.uds_find.proofs.Needing.{first_credit_is_credit}
+-- The proofs of public laws, under the names of their statements in specs/, for the crates above to cite. Nothing else
+-- of proofs/ is for them.
+pub use Rattle.uds_find.proofs.Needing.{credit_has_asking, need_has_asking, tester_is_another}

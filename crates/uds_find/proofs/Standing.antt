@@ -1,66 +1,231 @@
 -- What a finder keeps after one more frame.
-use Rattle.std.proofs.Common.{◌≡◌, ℕ, ◌<◌, List, [], ◌∷◌, ◌++◌, Option, Some, None, sym, ◌∙◌, ap, subst}
-use Rattle.std.proofs.lemmas.List.{get_or-replicate, length-replicate}
+use Rattle.std.proofs.Common.{◌≡◌, ℕ, ◌+◌, ◌^◌, ◌<◌, ◌≤◌, ◌==◌, Bool, true, false, List, [], ◌∷◌, ◌++◌, Option, Some, None, length, refl, sym, ◌∙◌}
+use Rattle.std.proofs.Common.{ap, subst, arith}
+use Rattle.std.proofs.lemmas.Bool.{eqb-true, eqb-false}
+use Rattle.std.proofs.lemmas.List.{get_or-replicate, length-replicate, length-set, get_or-set_same, get_or-set_other}
+use Rattle.std.proofs.lemmas.List.Sums.{count_by-le-length}
 use Rattle.std.specs.BTreeMap.{BTreeMap, IsOrdered}
+use Rattle.std.specs.List.{count_by}
 use Rattle.std.specs.Map.{lookup}
-use Rattle.std.specs.Prelude.{slice_index_or, slice_set}
+use Rattle.std.specs.Ordering.{is_eq}
+use Rattle.std.specs.declared.cmp.Ordering.{Ordering}
+use Rattle.std.specs.Prelude.{slice_index, slice_index_or, slice_set, if◌then◌else◌, ◌||◌}
 use Rattle.can_log.specs.Frame.{FrameValue}
 use Rattle.can_log.specs.declared.frame.Id.{Id}
-use Rattle.uds_find.specs.Credit.{credit, credit_of_mention, credit_count, credited_to, credits_after, asker_of_mention, is_about, is_same_pair, waits_for}
-use Rattle.uds_find.specs.Finding.{FinderValue, IsTally, StandsAfter, TellsWaiting}
+use Rattle.uds_find.specs.Asking.{asks, is_asking, request_count}
+use Rattle.uds_find.specs.Credit.{asks_for, credit, credit_of_mention, credit_count, credited_to, credits_after, has_answered, is_asking_of, is_same}
+use Rattle.uds_find.specs.Credit.{is_same_pair, last_asker}
+use Rattle.uds_find.specs.Finding.{FinderValue, IsTally, StandsAfter, TellsAnswered, TellsAskers, TellsAskings, counted, number_at, one_more}
+use Rattle.uds_find.specs.proving.Steps.{IsAskedMore, IsCreditedMore, IsCreditedTo}
 use Rattle.uds_find.specs.Mention.{mention_of}
 use Rattle.uds_find.specs.declared.mention.Mention.TheVariants.{Asks, Answers}
 use Rattle.uds_find.specs.declared.pair.IdPair.{IdPair}
-use Rattle.uds_find.proofs.Orders.{key_order, keys-once}
-use Rattle.uds_find.proofs.Waiting.{tells-silent, tells-spoken}
-use Rattle.uds_find.proofs.Counting.{tally-silent}
+use Rattle.uds_find.specs.declared.pair.UnitService.{UnitService}
+use Rattle.uds_find.proofs.Answered.{answered-after-asking, answered-credited, answered-silent, answered-uncredited}
+use Rattle.uds_find.proofs.Askers.{asker-asked, asker-kept, askings-asked, askings-kept}
+use Rattle.uds_find.proofs.Counting.{count-more, count-silent, few-counted, few-requests, requests-more, requests-silent}
+use Rattle.uds_find.proofs.Orders.{id_order, pair_order, same-id, same-pair}
+use Rattle.uds_find.proofs.Tallies.{keys-once, tally-same}
 use lib.ListN.{replicate}
 
--- where there is no frame, nobody waits
-pub nobody-waits : TellsWaiting [] (replicate 256 None)
-unfolding waits_for
-nobody-waits = record { places = length-replicate {A = Option Id} 256 None; each = λ service below. get_or-replicate 256 service None None below }
+-- ---- no frame
 
--- and no pair has a credit
-pub nothing-tallied : (pairs : BTreeMap IdPair ℕ) → pairs.entries ≡ [] → IsOrdered key_order pairs → IsTally [] pairs.entries
+pub nobody-asked : TellsAskers [] (replicate 256 None)
+unfolding last_asker
+nobody-asked = record { places = length-replicate {A = Option Id} 256 None; each = λ service below. get_or-replicate 256 service None None below }
+
+pub nothing-asked-for : TellsAskings [] (replicate 256 0)
+nothing-asked-for = record { places = length-replicate {A = ℕ} 256 0; each = λ service below. get_or-replicate 256 service 0 0 below }
+
+pub nothing-answered : (table : List (UnitService × ℕ)) → table ≡ [] → TellsAnswered [] (number_at table)
+unfolding last_asker
+nothing-answered table empty = record {
+  earlier = λ key. omega (arith, ap (λ t. number_at t key) empty);
+  each = λ key tester last apart. absurd (cc last);
+}
+
+pub no-credits : (pairs : BTreeMap IdPair ℕ) → pairs.entries ≡ [] → IsOrdered pair_order pairs → IsTally is_same_pair (credit_count []) pairs.entries
 unfolding credit_count credits_after
-nothing-tallied pairs empty ordered = record {
-  once = keys-once pairs.entries ordered;
+no-credits pairs empty ordered = record {
+  once = keys-once pair_order is_same_pair same-pair _ ordered;
   counts = λ pair. ap (lookup (is_same_pair pair)) empty;
 }
 
-pub stands-silent : (frames : List FrameValue) (frame : FrameValue) (finder : FinderValue) → mention_of frame ≡ None
-    → StandsAfter frames finder → StandsAfter (frames ++ frame ∷ []) finder
-stands-silent frames frame finder none stands = record {
-  waiting = tells-silent frames frame finder.waiting none stands.waiting;
-  tally = tally-silent frames frame finder.credits (ap (λ said. credit_of_mention frames said frame.id) none) stands.tally;
+pub no-requests : (names : BTreeMap Id ℕ) → names.entries ≡ [] → IsOrdered id_order names → IsTally is_same (request_count []) names.entries
+unfolding request_count
+no-requests names empty ordered = record {
+  once = keys-once id_order is_same same-id _ ordered;
+  counts = λ name. ap (lookup (is_same name)) empty;
 }
 
--- a frame that asks for a service: its identifier waits
-pub tells-asked : (frames : List FrameValue) (frame : FrameValue) (waiting : List (Option Id)) (service : ℕ) (asker : Id)
-    → mention_of frame ≡ Some (Asks service) → asker ≡ frame.id → service < 256
-    → TellsWaiting frames waiting → TellsWaiting (frames ++ frame ∷ []) (slice_set waiting service (Some asker))
-tells-asked frames frame waiting service asker said is below tells =
-    subst (λ place. TellsWaiting (frames ++ frame ∷ []) (slice_set waiting service place)) (ap (λ m. asker_of_mention m frame.id) said ∙ ap Some (sym is))
-    (tells-spoken frames frame waiting service (λ other. ap (is_about other) said) tells below)
+module _ (frames : List FrameValue) (frame : FrameValue) where
+  -- ---- a frame that doesn't ask
 
--- it is credited to nobody
-pub tally-asked : (frames : List FrameValue) (frame : FrameValue) (table : List (IdPair × ℕ)) (service : ℕ) → mention_of frame ≡ Some (Asks service)
-    → IsTally frames table → IsTally (frames ++ frame ∷ []) table
-tally-asked frames frame table service said tally = tally-silent frames frame table (ap (λ m. credit_of_mention frames m frame.id) said) tally
+  askers-kept : (askers : List (Option Id)) → ((service : ℕ) → asks_for service frame ≡ false) → TellsAskers frames askers
+      → TellsAskers (frames ++ frame ∷ []) askers
+  askers-kept askers silent tells = record {
+    places = tells.places;
+    each = λ service below. tells.each service below ∙ sym (asker-kept service frames frame (silent service));
+  }
 
--- a frame that answers it: nobody waits
-pub tells-answered : (frames : List FrameValue) (frame : FrameValue) (waiting : List (Option Id)) (service : ℕ)
-    → mention_of frame ≡ Some (Answers service) → service < 256
-    → TellsWaiting frames waiting → TellsWaiting (frames ++ frame ∷ []) (slice_set waiting service None)
-tells-answered frames frame waiting service said below tells =
-    subst (λ place. TellsWaiting (frames ++ frame ∷ []) (slice_set waiting service place)) (ap (λ m. asker_of_mention m frame.id) said)
-    (tells-spoken frames frame waiting service (λ other. ap (is_about other) said) tells below)
+  askings-still : (askings : List ℕ) → ((service : ℕ) → asks_for service frame ≡ false) → TellsAskings frames askings
+      → TellsAskings (frames ++ frame ∷ []) askings
+  askings-still askings silent tells = record {
+    places = tells.places;
+    each = λ service below. tells.each service below ∙ sym (askings-kept service frames frame (silent service));
+  }
 
--- the pair that it is credited to, by what is kept
-pub credit-kept : (frames : List FrameValue) (frame : FrameValue) (waiting : List (Option Id)) (service : ℕ) (unit : Id)
-    → mention_of frame ≡ Some (Answers service) → frame.id ≡ unit → service < 256 → TellsWaiting frames waiting
-    → credit frames frame ≡ credited_to (slice_index_or waiting service None) unit
-credit-kept frames frame waiting service unit said is below tells =
-    ap (λ m. credit_of_mention frames m frame.id) said ∙ ap (λ who. credited_to who frame.id) (sym (tells.each service below))
-    ∙ ap (λ name. credited_to (slice_index_or waiting service None) name) is
+  credits-kept : (table : List (IdPair × ℕ)) → credit frames frame ≡ None → IsTally is_same_pair (credit_count frames) table
+      → IsTally is_same_pair (credit_count (frames ++ frame ∷ [])) table
+  credits-kept table none tally =
+      tally-same is_same_pair (credit_count frames) (credit_count (frames ++ frame ∷ [])) table (λ pair. sym
+      (count-silent pair frames frame none)) tally
+
+  requests-kept : (table : List (Id × ℕ)) → asks frame ≡ false → IsTally is_same (request_count frames) table
+      → IsTally is_same (request_count (frames ++ frame ∷ [])) table
+  requests-kept table silent tally =
+      tally-same is_same (request_count frames) (request_count (frames ++ frame ∷ [])) table (λ name. requests-silent name frames frame silent) tally
+
+  -- a frame that says nothing
+  pub stands-silent : (finder : FinderValue) → mention_of frame ≡ None → StandsAfter frames finder → StandsAfter (frames ++ frame ∷ []) finder
+  stands-silent finder none stands = record {
+    askers = askers-kept finder.askers (λ service. ap (is_asking_of service) none) stands.askers;
+    askings = askings-still finder.askings (λ service. ap (is_asking_of service) none) stands.askings;
+    answered = answered-silent frames frame (number_at finder.answered) stands.answered none;
+    credits = credits-kept finder.credits (ap (λ said. credit_of_mention frames said frame.id) none) stands.credits;
+    requests = requests-kept finder.requests (ap is_asking none) stands.requests;
+  }
+
+  -- ---- a frame that asks for a service
+
+  module _ (service : ℕ) (said : mention_of frame ≡ Some (Asks service)) (small : service < 256) where
+    askers-asked : (askers : List (Option Id)) → TellsAskers frames askers
+        → TellsAskers (frames ++ frame ∷ []) (slice_set askers service (Some frame.id))
+    askers-asked askers tells = record {
+      places = length-set askers service (Some frame.id) ∙ tells.places;
+      each = λ other below. at other below (service == other) refl;
+    }
+      where
+        at : (other : ℕ) → other < 256 → (b : Bool) → (service == other) ≡ b
+            → slice_index_or (slice_set askers service (Some frame.id)) other None ≡ last_asker other (frames ++ frame ∷ [])
+        at other below true same =
+            ap (λ place. slice_index_or (slice_set askers service (Some frame.id)) place None) (sym (eqb-true service other same))
+            ∙ get_or-set_same askers service (Some frame.id) None (omega (arith, tells.places, small))
+            ∙ sym (asker-asked other frames frame (ap (is_asking_of other) said ∙ same))
+        at other below false apart =
+            get_or-set_other askers service other (Some frame.id) None (λ e. eqb-false service other apart (sym e))
+            ∙ tells.each other below ∙ sym (asker-kept other frames frame (ap (is_asking_of other) said ∙ apart))
+
+    askings-more : (askings : List ℕ) → TellsAskings frames askings
+        → TellsAskings (frames ++ frame ∷ []) (slice_set askings service (slice_index askings service + 1))
+    askings-more askings tells = record {
+      places = length-set askings service (slice_index askings service + 1) ∙ tells.places;
+      each = λ other below. at other below (service == other) refl;
+    }
+      where
+        at : (other : ℕ) → other < 256 → (b : Bool) → (service == other) ≡ b
+            → slice_index (slice_set askings service (slice_index askings service + 1)) other ≡ count_by (asks_for other) (frames ++ frame ∷ [])
+        at other below true same =
+            ap (λ place. slice_index (slice_set askings service (slice_index askings service + 1)) place) (sym (eqb-true service other same))
+            ∙ get_or-set_same askings service (slice_index askings service + 1) 0 (omega (arith, tells.places, small))
+            ∙ ap (λ n. n + 1) (ap (slice_index askings) (eqb-true service other same) ∙ tells.each other below)
+            ∙ sym (askings-asked other frames frame (ap (is_asking_of other) said ∙ same))
+        at other below false apart =
+            get_or-set_other askings service other (slice_index askings service + 1) 0 (λ e. eqb-false service other apart (sym e))
+            ∙ tells.each other below ∙ sym (askings-kept other frames frame (ap (is_asking_of other) said ∙ apart))
+
+    pub stands-asked : (old new : FinderValue) → length frames < 2 ^ 62 → IsAskedMore service frame.id old new → StandsAfter frames old
+        → StandsAfter (frames ++ frame ∷ []) new
+    stands-asked old new few step stands = record {
+      askers = subst (TellsAskers (frames ++ frame ∷ [])) (sym step.askers) (askers-asked old.askers stands.askers);
+      askings =
+          subst (TellsAskings (frames ++ frame ∷ []))
+          (sym (step.askings (omega (arith, few, stands.askings.each service small, count_by-le-length (asks_for service) frames))))
+          (askings-more old.askings stands.askings);
+      answered =
+          subst (λ t. TellsAnswered (frames ++ frame ∷ []) (number_at t)) (sym step.answered)
+          (answered-after-asking frames frame (number_at old.answered) stands.answered service said);
+      credits =
+          subst (IsTally is_same_pair (credit_count (frames ++ frame ∷ []))) (sym step.credits)
+          (credits-kept old.credits (ap (λ m. credit_of_mention frames m frame.id) said) stands.credits);
+      requests =
+          tally-same is_same (one_more is_same frame.id (request_count frames)) (request_count (frames ++ frame ∷ [])) new.requests
+          (λ name. requests-more name frames frame (ap is_asking said))
+          (step.requests (request_count frames) (omega (arith, few, few-requests frame.id frames)) stands.requests);
+    }
+
+  -- ---- a frame that answers it
+
+  module _ (service : ℕ) (said : mention_of frame ≡ Some (Answers service)) (small : service < 256) where
+    -- the pair that it is credited to, by what is kept
+    pub credit-kept : (finder : FinderValue) → StandsAfter frames finder
+        → credited_to (slice_index_or finder.askers service None) frame.id
+        (number_at finder.answered (record { unit = frame.id; service = service }) == slice_index finder.askings service)
+        ≡ credit frames frame
+    credit-kept finder stands =
+        ap (λ who. credited_to who frame.id
+        (number_at finder.answered (record { unit = frame.id; service = service }) == slice_index finder.askings service))
+        (stands.askers.each service small)
+        ∙ by (last_asker service frames) refl
+        ∙ sym (ap (λ m. credit_of_mention frames m frame.id) said)
+      where
+        is_answered : Bool
+        is_answered = number_at finder.answered (record { unit = frame.id; service = service }) == slice_index finder.askings service
+
+        for : (tester : Id) (b : Bool) → is_same tester frame.id ≡ b → last_asker service frames ≡ Some tester
+            → credited_to (Some tester) frame.id is_answered ≡ credited_to (Some tester) frame.id (has_answered service frame.id frames)
+        for tester true same last =
+            ap (λ b. if b || is_answered then None else Some (record { tester = tester; unit = frame.id })) same
+            ∙ sym (ap (λ b. if b || has_answered service frame.id frames then None else Some (record { tester = tester; unit = frame.id })) same)
+        for tester false apart last =
+            ap (credited_to (Some tester) frame.id)
+            (ap (λ n. number_at finder.answered (record { unit = frame.id; service = service }) == n) (stands.askings.each service small)
+            ∙ stands.answered.each (record { unit = frame.id; service = service }) tester last apart)
+
+        by : (who : Option Id) → last_asker service frames ≡ who
+            → credited_to who frame.id is_answered ≡ credited_to who frame.id (has_answered service frame.id frames)
+        by None last = refl
+        by (Some tester) last = for tester (is_same tester frame.id) refl last
+
+    none-stands : (finder : FinderValue) → credit frames frame ≡ None → StandsAfter frames finder → StandsAfter (frames ++ frame ∷ []) finder
+    none-stands finder none stands = record {
+      askers = askers-kept finder.askers (λ other. ap (is_asking_of other) said) stands.askers;
+      askings = askings-still finder.askings (λ other. ap (is_asking_of other) said) stands.askings;
+      answered =
+          answered-uncredited frames frame (number_at finder.answered) stands.answered service said
+          (sym (ap (λ m. credit_of_mention frames m frame.id) said) ∙ none);
+      credits = credits-kept finder.credits none stands.credits;
+      requests = requests-kept finder.requests (ap is_asking said) stands.requests;
+    }
+
+    some-stands : (pair : IdPair) (old new : FinderValue) → length frames < 2 ^ 62 → credit frames frame ≡ Some pair
+        → IsCreditedMore service frame.id pair old new → StandsAfter frames old → StandsAfter (frames ++ frame ∷ []) new
+    some-stands pair old new few some step stands = record {
+      askers =
+          subst (TellsAskers (frames ++ frame ∷ [])) (sym step.askers)
+          (askers-kept old.askers (λ other. ap (is_asking_of other) said) stands.askers);
+      askings =
+          subst (TellsAskings (frames ++ frame ∷ [])) (sym step.askings)
+          (askings-still old.askings (λ other. ap (is_asking_of other) said) stands.askings);
+      answered =
+          answered-credited frames frame (number_at old.answered) stands.answered service said (number_at new.answered)
+          (slice_index old.askings service) (stands.askings.each service small) step.answered;
+      credits =
+          tally-same is_same_pair (one_more is_same_pair pair (credit_count frames)) (credit_count (frames ++ frame ∷ [])) new.credits
+          (λ other. count-more other frames frame pair some)
+          (step.credits (credit_count frames) (omega (arith, few, few-counted pair frames)) stands.credits);
+      requests =
+          subst (IsTally is_same (request_count (frames ++ frame ∷ []))) (sym step.requests)
+          (requests-kept old.requests (ap is_asking said) stands.requests);
+    }
+
+    pub stands-answered : (old new : FinderValue) → length frames < 2 ^ 62
+        → IsCreditedTo service frame.id (credited_to (slice_index_or old.askers service None) frame.id
+        (number_at old.answered (record { unit = frame.id; service = service }) == slice_index old.askings service)) old new
+        → StandsAfter frames old → StandsAfter (frames ++ frame ∷ []) new
+    stands-answered old new few step stands = by (credit frames frame) refl (subst (λ to. IsCreditedTo service frame.id to old new)
+        (credit-kept old stands) step)
+      where
+        by : (to : Option IdPair) → credit frames frame ≡ to → IsCreditedTo service frame.id to old new → StandsAfter (frames ++ frame ∷ []) new
+        by None none is = subst (StandsAfter (frames ++ frame ∷ [])) (sym is) (none-stands old none stands)
+        by (Some pair) some more = some-stands pair old new few some more stands

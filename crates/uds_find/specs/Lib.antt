@@ -1,4 +1,7 @@
 pub mod Mention
 pub mod Credit
+pub mod Asking
+pub mod Tester
 pub mod Finding
 pub mod Laws
+pub mod proving

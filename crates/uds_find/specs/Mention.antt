@@ -21,7 +21,9 @@ mention_in_negative_response (service ∷ code ∷ more) = if is_response_pendin
 abbrev pub mention_by_sid : List ℕ → Option Mention
 mention_by_sid [] = None
 mention_by_sid (sid ∷ rest) =
-    if sid == negative_response then mention_in_negative_response rest else if is_response_sid sid then Some (Answers (service_answered sid)) else Some (Asks sid)
+    if sid == negative_response then mention_in_negative_response rest
+    else if is_response_sid sid then Some (Answers (service_answered sid))
+    else Some (Asks sid)
 
 -- what the bytes of a message in its first frame say; the keep-alive says nothing
 abbrev pub mention_in : List ℕ → Option Mention

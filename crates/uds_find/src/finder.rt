@@ -1,13 +1,12 @@
 //! Frames taken one by one, and the pairs that they are credited to.
 
-ghost use Rattle.std.specs.Prelude.{◌≡◌, ◌^◌, ◌<◌, [], ◌∷◌, ◌++◌, List, length, OnOk, OnErr, IfOk, Some, map};
-ghost use Rattle.std.specs.BTreeMap.{IsUnchanged};
-ghost use Rattle.can_log.specs.Frame.{FrameValue};
+ghost use Rattle.std.specs.Prelude.{◌≡◌};
 ghost use Rattle.uds_find.specs.Credit as Spec;
-ghost use Rattle.uds_find.specs.Finding.{IsTally, credit_line};
 
+use crate::lines::{first_candidates, lines_of};
 use crate::mention::{Mention, mention_of};
-use crate::pair::{CreditLine, IdPair};
+use crate::pair::{CreditLine, IdPair, UnitService};
+use crate::tables::{count_request, credit_once, last_answered};
 use can_log::{Frame, Id};
 use std::alloc::{AllocError, Global};
 use std::collections::BTreeMap;
@@ -16,10 +15,17 @@ use std::marker::Model;
 /// What is kept of the frames of a log.
 #[derive(Drop)]
 pub struct Finder {
-    /// Of each service who waits for its answer.
-    waiting: [Option<Id>; 256],
+    /// Of each service who asked for it last.
+    askers: [Option<Id>; 256],
+    /// How often each service was asked for.
+    askings: [u64; 256],
+    /// Of a unit and a service, which asking for the service it answered last, of those whose answer was credited. 0 is
+    /// none.
+    answered: BTreeMap<UnitService, u64>,
     /// How many answers of each pair were credited.
     credits: BTreeMap<IdPair, u64>,
+    /// How many requests each identifier sent.
+    requests: BTreeMap<Id, u64>,
 }
 
 impl Model for Finder {
@@ -27,106 +33,100 @@ impl Model for Finder {
 
     ghost Value = { FinderValue };
 
-    ghost view = { λ f. record { waiting = f.waiting; credits = f.credits.entries } };
+    ghost view = { λ f. record {
+      askers = f.askers;
+      askings = f.askings;
+      answered = f.answered.entries;
+      credits = f.credits.entries;
+      requests = f.requests.entries;
+    } };
 }
 
 impl Finder {
     ghost use Rattle.std.specs.Prelude.{◌≡◌, ◌^◌, ◌<◌, [], ◌∷◌, ◌++◌, List, length, OnOk, OnErr, IfOk, Some};
     ghost use Rattle.can_log.specs.Frame.{FrameValue};
-    ghost use Rattle.uds_find.specs.Credit.{HasCredit, IsFirstCredit};
-    ghost use Rattle.uds_find.specs.Finding.{AreCreditLines, IsTally, StandsAfter};
-    ghost use Rattle.uds_find.specs.Mention.{mention_of};
-    ghost use Rattle.uds_find.specs.declared.mention.Mention.TheVariants.{Answers};
+    ghost use Rattle.uds_find.specs.Asking.{NeedsMemory, request_count};
+    ghost use Rattle.uds_find.specs.Credit.{HasCredit};
+    ghost use Rattle.uds_find.specs.Finding.{AreCreditLines, StandsAfter};
+    ghost use Rattle.uds_find.specs.proving.Steps.{IsAskedMore, IsCreditedTo, credited_by};
+    ghost use Rattle.uds_find.specs.declared.pair.IdPair.{IdPair};
 
     /// Before the first frame.
     pub fn new(alloc: Global) -> Finder
         ensures { StandsAfter [] result }
     {
         Finder {
-            waiting: [None; 256],
+            askers: [None; 256],
+            askings: [0; 256],
+            answered: BTreeMap::new(alloc),
             credits: BTreeMap::new(alloc),
+            requests: BTreeMap::new(alloc),
         }
     }
 
     /// Takes one more frame. Where memory is refused, nothing has changed.
     pub fn take(&mut self, frame: &Frame) -> Result<(), AllocError>
-        ensures ok { OnOk result ((frames : List FrameValue) → length frames < 2 ^ 62 → StandsAfter frames self.old → StandsAfter (frames ++ frame.now ∷ []) self.new) }
+        ensures ok { OnOk result ((frames : List FrameValue) → length frames < 2 ^ 62
+            → StandsAfter frames self.old → StandsAfter (frames ++ frame.now ∷ []) self.new) }
         ensures err { OnErr result (self.new ≡ self.old) }
-        ensures needs { OnErr result ((frames : List FrameValue) → StandsAfter frames self.old → IsFirstCredit frames frame.now) }
+        ensures needs { OnErr result ((frames : List FrameValue)
+            → StandsAfter frames self.old → NeedsMemory frames frame.now) }
     {
         match mention_of(frame) {
             None => Ok(()),
-            Some(Mention::Asks(service)) => {
-                self.waiting[service as usize] = Some(frame.id());
-                Ok(())
-            }
-            Some(Mention::Answers(service)) => {
-                self.credit(service, frame.id())?;
-                self.waiting[service as usize] = None;
-                Ok(())
-            }
+            Some(Mention::Asks(service)) => self.ask(service, frame.id()),
+            Some(Mention::Answers(service)) => self.credit(service, frame.id()),
         }
     }
 
-    /// The lines of the pairs, in their order.
+    /// The credit lines of the units, in their order.
     pub fn finish(self, alloc: Global) -> Result<Vec<CreditLine>, AllocError>
-        ensures lines { IfOk result (λ lines. (frames : List FrameValue) → StandsAfter frames self → AreCreditLines frames lines.items) }
+        ensures lines { IfOk result (λ lines. (frames : List FrameValue)
+            → StandsAfter frames self → AreCreditLines frames lines.items) }
         ensures needs { OnErr result ((frames : List FrameValue) → StandsAfter frames self → HasCredit frames) }
     {
-        let mut lines = lines_of(alloc, self.credits)?;
+        let candidates = first_candidates(alloc, &self.credits)?;
+        let mut lines = lines_of(alloc, candidates, &self.credits, &self.requests)?;
         lines.sort_unstable();
         Ok(lines)
     }
 
-    /// Credits an answer of the service by this identifier to who waits for it.
-    fn credit(&mut self, service: u8, unit: Id) -> Result<(), AllocError>
-        ensures ok { OnOk result ((frames : List FrameValue) (frame : FrameValue) → length frames < 2 ^ 62 → mention_of frame ≡ Some (Answers service) → frame.id ≡ unit
-            → StandsAfter frames self.old → IsTally (frames ++ frame ∷ []) self.new.credits) }
+    /// This identifier asks for the service.
+    fn ask(&mut self, service: u8, asker: Id) -> Result<(), AllocError>
+        ensures ok { OnOk result (IsAskedMore service asker self.old self.new) }
         ensures err { OnErr result (self.new ≡ self.old) }
-        ensures needs { OnErr result ((frames : List FrameValue) (frame : FrameValue) → mention_of frame ≡ Some (Answers service) → frame.id ≡ unit
-            → StandsAfter frames self.old → IsFirstCredit frames frame) }
-        ensures kept { self.new.waiting ≡ self.old.waiting }
+        ensures needs { OnErr result ((frames : List FrameValue)
+            → StandsAfter frames self.old → request_count frames asker ≡ 0) }
     {
-        if let Some(pair) = credited_to(self.waiting[service as usize], unit) {
-            count(&mut self.credits, pair)?;
+        count_request(&mut self.requests, asker)?;
+        let place = service as usize;
+        self.askers[place] = Some(asker);
+        self.askings[place] = self.askings[place].saturating_add(1);
+        Ok(())
+    }
+
+    /// Credits an answer of the service by this identifier to who asked last.
+    fn credit(&mut self, service: u8, unit: Id) -> Result<(), AllocError>
+        ensures ok { OnOk result (IsCreditedTo service unit (credited_by self.old service unit) self.old self.new) }
+        ensures err { OnErr result (self.new ≡ self.old) }
+        ensures needs { OnErr result ((pair : IdPair) × (credited_by self.old service unit ≡ Some pair)) }
+    {
+        let asking = self.askings[service as usize];
+        let answer = UnitService { unit, service };
+        let is_answered = last_answered(&self.answered, answer) == asking;
+        if let Some(pair) = credited_to(self.askers[service as usize], unit, is_answered) {
+            credit_once(&mut self.answered, &mut self.credits, answer, pair, asking)?;
         }
         Ok(())
     }
 }
 
-/// Counts one more credit of a pair.
-fn count(credits: &mut BTreeMap<IdPair, u64>, pair: IdPair) -> Result<(), AllocError>
-    ensures ok { OnOk result ((frames : List FrameValue) (frame : FrameValue) → length frames < 2 ^ 62 → IsTally frames credits.old.entries
-        → Spec.credit frames frame ≡ Some pair → IsTally (frames ++ frame ∷ []) credits.new.entries) }
-    ensures err { OnErr result (IsUnchanged credits.old credits.new) }
-    ensures needs { OnErr result ((frames : List FrameValue) → IsTally frames credits.old.entries → Spec.credit_count pair frames ≡ 0) }
+/// The pair of who asked last and of who answers, where this answer is credited.
+fn credited_to(asker: Option<Id>, unit: Id, is_answered: bool) -> Option<IdPair>
+    ensures { result ≡ Spec.credited_to asker unit is_answered }
 {
-    let counted = credits.get(&pair).copied().unwrap_or(0);
-    // Below 2^62 frames it does not saturate, and no log has as many.
-    credits.insert(pair, counted.saturating_add(1))?;
-    Ok(())
-}
-
-/// The lines of the pairs, in the order of the map.
-fn lines_of(alloc: Global, credits: BTreeMap<IdPair, u64>) -> Result<Vec<CreditLine>, AllocError>
-    ensures lines { IfOk result (λ lines. lines.items ≡ map credit_line credits.entries) }
-    ensures needs { OnErr result (0 < length credits.entries) }
-{
-    let mut lines = Vec::new(alloc);
-    // `pop_first` empties it: nothing is copied.
-    let mut rest = credits;
-    'pairs: while let Some((pair, counted)) = rest.pop_first() {
-        lines.push(CreditLine::new(pair, counted))?;
-    }
-    Ok(lines)
-}
-
-/// The pair of who waits for an answer and of who gives it.
-fn credited_to(waiting: Option<Id>, unit: Id) -> Option<IdPair>
-    ensures { result ≡ Spec.credited_to waiting unit }
-{
-    let tester = waiting?;
-    if tester == unit {
+    let tester = asker?;
+    if tester == unit || is_answered {
         None
     } else {
         Some(IdPair { tester, unit })

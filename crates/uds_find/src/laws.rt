@@ -1,6 +1,7 @@
 //! What holds of what frames say and of credits, whatever counts them. Each law is its contract; a call does nothing.
 
-ghost use Rattle.uds_find.specs.Laws.{CreditIsAsked, FirstCreditIsCredit, KeepAliveSaysNothing, PendingReplySaysNothing};
+ghost use Rattle.uds_find.specs.Laws.{CreditHasAsking, CreditIsAsked, FirstCreditIsCredit, KeepAliveSaysNothing};
+ghost use Rattle.uds_find.specs.Laws.{NeedHasAsking, PendingReplySaysNothing, SecondAnswerHasNoCredit, TesterIsAnother};
 
 /// A keep-alive asks for nothing.
 pub fn keep_alive_says_nothing()
@@ -17,7 +18,28 @@ pub fn first_credit_is_credit()
     ensures { FirstCreditIsCredit }
 {}
 
-/// A credited frame answers a service: its unit sent it, and its tester, which is another, was the last to ask.
+/// A credited frame answers a service: its unit sent it, and its tester, which is another, was the last to ask, and has
+/// no answer of this unit yet.
 pub fn credit_is_asked()
     ensures { CreditIsAsked }
+{}
+
+/// A credit is given once for one asking.
+pub fn second_answer_has_no_credit()
+    ensures { SecondAnswerHasNoCredit }
+{}
+
+/// Where an answer is credited, some frame asks.
+pub fn credit_has_asking()
+    ensures { CreditHasAsking }
+{}
+
+/// What is kept grows only where some frame asks.
+pub fn need_has_asking()
+    ensures { NeedHasAsking }
+{}
+
+/// No unit is its own tester.
+pub fn tester_is_another()
+    ensures { TesterIsAnother }
 {}

@@ -1,8 +1,8 @@
 //! Which identifiers of a log ask, and which answer them, for a log whose tester and unit nobody named.
 //!
-//! A frame that begins a message says of a service that it asks for it or that it answers it ([`mention_of`]), whatever its
-//! identifier. A [`Finder`] takes frames one by one, and credits each answer to the identifier that last asked for its
-//! service; its lines are the pairs, each with the number of its answers.
+//! A frame that begins a message says of a service that it asks for it or that it answers it ([`mention_of`]), whatever
+//! its identifier. A [`Finder`] takes frames one by one, and credits each answer to the identifier that last asked for
+//! its service, once for each asking; its lines are the identifiers with a credit, each with its tester.
 //!
 //! ```text
 //! 7E0#0322F190          asks for service 22
@@ -10,14 +10,17 @@
 //! 7E0#300000            says nothing
 //! 7E8#2131413345304645  says nothing
 //!
-//! CreditLine { credits: 1, tester: "7E0", unit: "7E8" }
+//! CreditLine { credits: 1, requests: 1, tester: "7E0", unit: "7E8" }
 //! ```
 #![tactic(auto)]
 
+mod candidate;
 mod finder;
 pub mod laws;
+mod lines;
 mod mention;
 mod pair;
+mod tables;
 
 pub use finder::Finder;
 pub use mention::{Mention, mention_of};

@@ -7,7 +7,7 @@ ghost use Rattle.std.specs.Ordering.{as_partial_cmp, flip_args, nat_cmp, on, the
 ghost use Rattle.std.proofs.Common.{rules};
 
 use arrayvec::ArrayVec;
-use can_log::{Id, identifier_text};
+use can_log::Id;
 use std::cmp::Ordering;
 
 /// An identifier that asks, and one that answers it.
@@ -17,41 +17,36 @@ pub struct IdPair {
     pub unit: Id,
 }
 
-/// A pair by the texts of its identifiers, and how many credits it has. Lines are ordered by the most credits, and then by
-/// these texts, as a reader of the list orders them.
+/// An identifier that answers, and a service that it answers.
+#[derive(Clone, Copy, Debug, PartialEq, Eq, PartialOrd, Ord)]
+pub(crate) struct UnitService {
+    pub unit: Id,
+    pub service: u8,
+}
+
+/// A unit and its tester by the texts of their identifiers, with how many of the unit's answers are credited to it, and
+/// how many requests the tester sent. Lines are ordered by the most credits, and then by these texts, as a reader of the
+/// list orders them.
 #[derive(Debug, Drop, PartialEq, Eq)]
 pub struct CreditLine {
     pub credits: u64,
+    pub requests: u64,
     pub tester: ArrayVec<u8, 8>,
     pub unit: ArrayVec<u8, 8>,
-}
-
-impl CreditLine {
-    ghost use Rattle.std.specs.Prelude.{◌≡◌};
-    ghost use Rattle.uds_find.specs.Finding.{credit_line};
-
-    /// The line of a pair with so many credits.
-    pub(crate) fn new(pair: IdPair, credits: u64) -> CreditLine
-        ensures { result ≡ credit_line (pair, credits) }
-    {
-        CreditLine {
-            credits,
-            tester: identifier_text(pair.tester),
-            unit: identifier_text(pair.unit),
-        }
-    }
 }
 
 // `cmp` is `line_order` of the definitions, in the form that `comparing` searches.
 impl Ord for CreditLine {
     ghost cmp = { then_cmp (flip_args (on (λ line. line.credits) nat_cmp))
-        (then_cmp (on (λ line. line.tester.items) (slice_cmp nat_cmp)) (on (λ line. line.unit.items) (slice_cmp nat_cmp))) };
+        (then_cmp (on (λ line. line.tester.items) (slice_cmp nat_cmp))
+        (then_cmp (on (λ line. line.unit.items) (slice_cmp nat_cmp))
+        (flip_args (on (λ line. line.requests) nat_cmp)))) };
 
-    ghost total = { Prim.search (comparing, rules) };
+    ghost total = { Prim.search (comparing, rules) depth 9 };
 
-    ghost matches_partial_cmp = { Prim.search (comparing, rules) };
+    ghost matches_partial_cmp = { Prim.search (comparing, rules) depth 9 };
 
-    ghost matches_eq = { Prim.search (comparing, rules) };
+    ghost matches_eq = { Prim.search (comparing, rules) depth 9 };
 
     fn cmp(&self, other: &CreditLine) -> Ordering {
         other
@@ -59,15 +54,19 @@ impl Ord for CreditLine {
             .cmp(&self.credits)
             .then_with(|| self.tester.cmp(&other.tester))
             .then_with(|| self.unit.cmp(&other.unit))
+            .then_with(|| other.requests.cmp(&self.requests))
     }
 }
 
 // `partial_cmp` is the same order.
 impl PartialOrd for CreditLine {
     ghost partial_cmp = { as_partial_cmp (then_cmp (flip_args (on (λ line. line.credits) nat_cmp))
-        (then_cmp (on (λ line. line.tester.items) (slice_cmp nat_cmp)) (on (λ line. line.unit.items) (slice_cmp nat_cmp)))) };
+        (then_cmp (on (λ line. line.tester.items) (slice_cmp nat_cmp))
+        (then_cmp (on (λ line. line.unit.items) (slice_cmp nat_cmp))
+        (flip_args (on (λ line. line.requests) nat_cmp))))) };
 
-    ghost laws = { partial_order_from_own_ties (Prim.search (comparing, rules)) (Prim.search (comparing, rules)) };
+    ghost laws = { partial_order_from_own_ties (Prim.search (comparing, rules) depth 9)
+        (Prim.search (comparing, rules) depth 9) };
 
     fn partial_cmp(&self, other: &CreditLine) -> Option<Ordering> {
         Some(self.cmp(other))

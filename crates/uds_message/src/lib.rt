@@ -20,4 +20,4 @@ pub use message::{
     Answer, TesterKind, answer_to, is_negative_response, is_response_pending, is_response_sid,
     is_suppressing, response_code, service_answered, sid, tester_kind,
 };
-pub use names::{code_name, service_name};
+pub use names::{code_name, has_sub_function, service_name};

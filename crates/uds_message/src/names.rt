@@ -19,7 +19,7 @@ pub fn service_name(sid: u8) -> Option<&'static str>
 }
 
 /// Whether the service has a sub-function, and so a bit to suppress the positive response.
-pub(crate) fn has_sub_function(sid: u8) -> bool
+pub fn has_sub_function(sid: u8) -> bool
     ensures { result ≡ Spec.has_sub_function sid }
 {
     match service_row(sid) {

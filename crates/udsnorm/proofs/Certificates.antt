@@ -7,19 +7,20 @@ use Rattle.isotp_receive.specs.declared.TheConstants.{MESSAGE_LIMIT}
 use Rattle.trace_canon.specs.Sessions.{GivesSession}
 use Rattle.trace_log.specs.Laws.{Certifies, IsCertified}
 use Rattle.trace_log.specs.Outcome.{Accepted, IsOutcome}
-use Rattle.trace_log.specs.Settings.{Settings}
+use Rattle.trace_log.specs.Settings.{Settings, without_rules}
 use Rattle.trace_log.specs.Summing.{is_clean, summary_of}
 use Rattle.trace_canon.specs.declared.collector.Session.{Session}
 use Rattle.trace_log.specs.declared.fault.CompareFault.{CompareFault}
 use Rattle.trace_log.specs.declared.fault.Fault.{Fault}
 use Rattle.trace_run.specs.declared.machine.NoAnswer.{NoAnswer}
 use Rattle.trace_log.specs.declared.summary.Summary.{Summary}
-use Rattle.trace_log.proofs.Promises.{clean_log_is_recording, clean_summary_is_certificate, summary_certifies}
+use Rattle.trace_log.proofs.Promises.{certificate_knows_no_rules, clean_log_is_recording, clean_summary_is_certificate, summary_certifies}
 use Rattle.trace_run.specs.Script.{GlimpseValue, Needing, RefusalText, Script, answers_counts, command, needs_none, says_no_refusal}
-use Rattle.trace_run.specs.Ran.{AnswersAndWrites, IsReadToEnd}
+use Rattle.trace_run.specs.Stopping.{IsReadToEnd}
+use Rattle.trace_run.specs.AnswersAndWrites.{AnswersAndWrites}
 use Rattle.trace_report.specs.Kept as Keeps
 use Rattle.trace_report.specs.Session.{SessionValue}
-use Rattle.udsnorm.specs.Commands.{Engine, normalises, writes, finds, runs, runs_in_style, EngineAnswers, PairEngineAnswers, answers_of, engine_of}
+use Rattle.udsnorm.specs.Commands.{Engine, normalises, writes, finds, explains, runs, runs_in_style, EngineAnswers, PairEngineAnswers, answers_of, engine_of}
 use Rattle.udsnorm.specs.Ending.{status_of_run_of_two}
 use Rattle.udsnorm.specs.declared.commands.Job.{Job}
 use Rattle.udsnorm.specs.declared.pair_jobs.PairAnswer.{PairAnswer}
@@ -61,13 +62,25 @@ of_script : (script : Script) (refusal : RefusalText) (needs : Needing) (setting
 of_script script refusal needs settings log given summary old new (all, meanings, read, counted, wrote) =
     of_told settings log meanings summary (of_read script.strict settings log meanings read) counted
 
+-- those of a log that was explained, which is without rules
+of_explained : (settings : Settings) (log : List ℕ) (meanings : List (Option Stamped)) (summary : Summary) → LogMeans log meanings
+    → ◌≡◌ {A = Result Summary NoAnswer} (Ok summary) (Ok (summary_of MESSAGE_LIMIT (without_rules settings) log meanings)) → is_clean summary ≡ true
+    → IsCertified MESSAGE_LIMIT settings log
+of_explained settings log meanings summary means counted =
+    let plain = without_rules settings in
+    let same : summary_of MESSAGE_LIMIT plain log meanings ≡ summary = cc counted in
+    of_clean settings log summary
+    (certificate_knows_no_rules MESSAGE_LIMIT settings log summary (subst (Certifies MESSAGE_LIMIT plain log) same (of_lines plain log meanings means)))
+
 -- `find` counts no frames of either side, so no log is clean by its counts
 of_engine : (engine : Engine) (settings : Settings) (log : List ℕ) (given : ℕ) (summary : Summary) (old new : List ℕ) → answers_of engine MESSAGE_LIMIT settings log given (Ok summary) old new
     → is_clean summary ≡ true → IsCertified MESSAGE_LIMIT settings log
 of_engine normalises settings log given summary old new (accepted, outcome, counted, wrote) = of_clean settings log summary (of_accepted settings log accepted summary outcome counted)
 of_engine (writes text) settings log given summary old new (items, is, wrote) = of_clean settings log summary (of_accepted settings log is.accepted summary is.outcome is.counted)
-of_engine (finds notation) settings log given summary old new (pairs, (meanings, read, found), wrote) = λ clean. absurd (true≢false (sym clean ∙ ap is_clean found.1))
-of_engine (runs script needs) settings log given summary old new told = of_script (script MESSAGE_LIMIT) says_no_refusal (needs MESSAGE_LIMIT) settings log given summary old new told
+of_engine (finds style) settings log given summary old new (pairs, (meanings, read, found), wrote) = λ clean. absurd (true≢false (sym clean ∙ ap is_clean found.1))
+of_engine (explains notation) settings log given summary old new (all, meanings, read, counted, wrote) = of_explained settings log meanings summary read.1 counted
+of_engine (runs script needs) settings log given summary old new told =
+    of_script (script MESSAGE_LIMIT settings.rules) says_no_refusal (needs MESSAGE_LIMIT settings.rules) settings log given summary old new told
 of_engine (runs_in_style script refusal) settings log given summary old new (style, told) = of_script (script style settings MESSAGE_LIMIT) (refusal style settings MESSAGE_LIMIT) needs_none settings log given summary old new told
 
 -- whatever the job
@@ -86,7 +99,7 @@ are_clean false one other is none = absurd (true≢false (sym is))
 -- a log is clean
 pub is_certified : (settings : Settings) (log : List ℕ) (session : Session) → GivesSession MESSAGE_LIMIT settings log (Ok session) → is_clean session.summary ≡ true → IsCertified MESSAGE_LIMIT settings log
 is_certified settings log session gives clean =
-    clean_log_is_recording MESSAGE_LIMIT settings log session.summary (of_accepted settings log gives.accepted session.summary gives.outcome gives.counted) clean
+    clean_log_is_recording MESSAGE_LIMIT settings log session.summary (of_accepted settings log gives.accepted.accepted session.summary gives.accepted.outcome gives.accepted.counted) clean
 
 -- a log that is kept is clean
 of_held : (settings : Settings) (log : List ℕ) (session : SessionValue) → Keeps.KeepsOne MESSAGE_LIMIT settings log (Ok session) → is_clean session.summary ≡ true → IsCertified MESSAGE_LIMIT settings log

@@ -1,5 +1,5 @@
 -- The configuration that the values of options ask for.
-use Rattle.std.proofs.Common.{◌≡◌, ℕ, List, Bool, true, false, arith, refl, ap, sym, subst, ◌∙◌, Option, Some, None, Result, Ok, Err}
+use Rattle.std.proofs.Common.{◌≡◌, inl, inr, codes, ℕ, List, Bool, true, false, arith, refl, ap, sym, subst, ◌∙◌, Option, Some, None, Result, Ok, Err}
 use Rattle.std.specs.Borrow.{Bor}
 use Rattle.std.specs.Prelude.{option_map, unwrap_or, ⊤, IfErr, IsErrAnd}
 use Rattle.can_log.specs.declared.frame.Id.{Id}
@@ -7,19 +7,27 @@ use Rattle.std.specs.Str.Parse.{ExplainsUnsignedError, HasUnsignedDigitsIfOk, Pa
 use Rattle.std.specs.declared.num.ParseIntError.{ParseIntError}
 use Rattle.clap.specs.Matches.{ReadsOne, one_text}
 use Rattle.clap.specs.ValueTests.{is_unsigned_in}
-use Rattle.clap.specs.Walk.{Row, Text, one_of, rows_of}
+use Rattle.clap.specs.Walk.{Row, Text, first_of, one_of, rows_of}
 use Rattle.clap.specs.declared.builder.value_parser.ValueParser.TheVariants.{Unsigned}
 use Rattle.clap.specs.declared.parser.matches.Found.{Found}
 use Rattle.clap.proofs.ValueTestLemmas.{Accepts-accepts, accepts-Accepts}
 use Rattle.clap.proofs.WalkLemmas.{one_text-rows}
 use Rattle.trace_log.specs.Settings.{Settings}
+use Rattle.uds_rules.specs.Rule.{RuleValue}
+use Rattle.profile.specs.Profile.{ProfileValue}
+use Rattle.asked_profile.specs.Choice.{chosen_of}
+use Rattle.asked_profile.specs.declared.choice.ChoiceFault.{ChoiceFault}
+use Rattle.asked_profile.specs.declared.choice.RunIdentifiers.{RunIdentifiers}
+use Rattle.udsnorm.specs.Configured.{IsBeside, IsConfigured, IsConfiguredAs, IsConfiguredBy, IsInOneStyle, IsNamed, IsOfBytes, IsOfChoice, IsOfSeen, IsOfSides, IsTold, IsToldUnread, IsUnder, IsWithout, asks_for_both, beside_line, choice_line, line_about, side_beside}
 use Rattle.udsnorm.specs.declared.commands.Task.{Task}
+use Rattle.udsnorm.specs.declared.profiled.SeenProfile.{SeenProfile}
+use Rattle.udsnorm.specs.declared.profiled.SeenProfile.TheVariants as seen
 use Rattle.udsnorm.specs.declared.job.Plan.{Plan}
 use Rattle.udsnorm.specs.declared.job.WordsFault.{WordsFault}
-use Rattle.udsnorm.specs.declared.job.WordsFault.TheVariants.{Help, Words, Identifier, Config, Memory}
-use Rattle.udsnorm.specs.Identifiers.{identifier_of}
+use Rattle.udsnorm.specs.declared.job.WordsFault.TheVariants.{Help, Words, Identifier, Config, Profile, Unread, Memory}
+use Rattle.profile.specs.UnitKeys.{identifier_of}
 use Rattle.udsnorm.specs.Values.{limit_in, number_of, tester_in, unit_in}
-use Rattle.udsnorm.specs.Words.{IsConfiguredBy, IsConfiguredIn, IsRefusedFor}
+use Rattle.udsnorm.specs.Words.{IsRefusedFor}
 
 -- what a text with a default holds
 text_or : (text : Option (Bor Text)) (default : Bor Text) → (unwrap_or text default).now ≡ unwrap_or (option_map (λ t. t.now) text) default.now
@@ -74,14 +82,22 @@ IsOfValues (Help text) = ⊥
 IsOfValues (Words text) = ⊥
 IsOfValues Identifier = ⊤
 IsOfValues (Config fault) = ⊤
+IsOfValues (Profile line) = ⊤
+IsOfValues (Unread line) = ⊤
 IsOfValues Memory = ⊤
 
+-- no configuration of identifiers is none of the parser's
+of_identifiers : (tester unit : Id) (limit : ℕ) (fault : WordsFault) → IsConfiguredAs tester unit limit (Err fault) → IsOfValues fault
+of_identifiers tester unit limit (Help text) by = by
+of_identifiers tester unit limit (Words text) by = by
+of_identifiers tester unit limit Identifier by = tt
+of_identifiers tester unit limit (Config fault) by = tt
+of_identifiers tester unit limit (Profile line) by = tt
+of_identifiers tester unit limit (Unread line) by = tt
+of_identifiers tester unit limit Memory by = tt
+
 of_fault : (tester unit : Option Id) (limit : ℕ) (fault : WordsFault) → IsConfiguredBy tester unit limit (Err fault) → IsOfValues fault
-of_fault (Some tester) (Some unit) limit (Help text) by = by
-of_fault (Some tester) (Some unit) limit (Words text) by = by
-of_fault (Some tester) (Some unit) limit Identifier by = tt
-of_fault (Some tester) (Some unit) limit (Config fault) by = tt
-of_fault (Some tester) (Some unit) limit Memory by = tt
+of_fault (Some tester) (Some unit) limit fault by = of_identifiers tester unit limit fault by
 of_fault (Some tester) None limit fault by =
     let is : fault ≡ Identifier = cc in
     subst IsOfValues (sym is) tt
@@ -89,17 +105,87 @@ of_fault None unit limit fault by =
     let is : fault ≡ Identifier = cc in
     subst IsOfValues (sym is) tt
 
+-- nor is what is told of a profile
+of_told : (line : List ℕ) (fault : WordsFault) → IsTold line fault → IsOfValues fault
+of_told line (Help text) by = by
+of_told line (Words text) by = by
+of_told line Identifier by = tt
+of_told line (Config fault) by = tt
+of_told line (Profile told) by = tt
+of_told line (Unread told) by = tt
+of_told line Memory by = tt
+
+of_unread : (line : List ℕ) (fault : WordsFault) → IsToldUnread line fault → IsOfValues fault
+of_unread line (Help text) by = by
+of_unread line (Words text) by = by
+of_unread line Identifier by = tt
+of_unread line (Config fault) by = tt
+of_unread line (Profile told) by = tt
+of_unread line (Unread told) by = tt
+of_unread line Memory by = tt
+
+of_memory : (fault : WordsFault) → ◌≡◌ {A = Result Settings WordsFault} (Err fault) (Err Memory) → IsOfValues fault
+of_memory fault by =
+    let is : fault ≡ Memory = cc in
+    subst IsOfValues (sym is) tt
+
+-- rules change no fault
+of_under : (rules : List RuleValue) (IsPlain : Result Settings WordsFault → Type 0) (fault : WordsFault) → ((plain : WordsFault) → IsPlain (Err plain) → IsOfValues plain)
+    → IsUnder rules IsPlain (Err fault) → IsOfValues fault
+of_under rules IsPlain fault each (Ok settings, by, is) = absurd cc
+of_under rules IsPlain fault each (Err plain, by, is) =
+    let same : fault ≡ plain = cc in
+    subst IsOfValues (sym same) (each plain by)
+
+of_sides : (sides : Option RunIdentifiers) (rows : List Row) (fault : WordsFault) → IsOfSides sides rows (Err fault) → IsOfValues fault
+of_sides None rows fault by = of_fault (tester_in rows) (unit_in rows) (limit_in rows) fault by
+of_sides (Some sides) rows fault by = of_identifiers sides.tester sides.unit (limit_in rows) fault by
+
+of_choice : (file : Text) (rows : List Row) (profile : ProfileValue) (choice : Result (Option RunIdentifiers) ChoiceFault) (fault : WordsFault) → IsOfChoice file rows profile choice (Err fault)
+    → IsOfValues fault
+of_choice file rows profile (Ok sides) fault by = of_under profile.rules (IsOfSides sides rows) fault (of_sides sides rows) by
+of_choice file rows profile (Err none) fault by = of_told (choice_line file profile.units (first_of (codes "only") rows) none) fault by
+
+of_beside : (option : Option Text) (file : Text) (rows : List Row) (profile : ProfileValue) (fault : WordsFault) → IsBeside option file rows profile (Err fault) → IsOfValues fault
+of_beside (Some option) file rows profile fault by = of_told (beside_line option file) fault by
+of_beside None file rows profile fault by = of_choice file rows profile (chosen_of profile.units (first_of (codes "only") rows)) fault by
+
+of_bytes : (file : Text) (rows : List Row) (text : List ℕ) (fault : WordsFault) → IsOfBytes file rows text (Err fault) → IsOfValues fault
+of_bytes file rows text fault (inl (profile, readable, asked, by)) = of_beside (side_beside profile.units rows) file rows profile fault by
+of_bytes file rows text fault (inr (inl (line, told, wrong, by))) = of_told (line_about file told) fault by
+of_bytes file rows text fault (inr (inr memory)) = of_memory fault memory
+
+of_seen : (file : Text) (rows : List Row) (what : SeenProfile) (fault : WordsFault) → IsOfSeen file rows what (Err fault) → IsOfValues fault
+of_seen file rows (seen.Read text) fault by = of_bytes file rows text.items fault by
+of_seen file rows seen.Unread fault by = of_unread (line_about file (codes "read failed")) fault by
+of_seen file rows seen.Shared fault by = of_told (codes "profile and log are the same stream\n") fault by
+of_seen file rows seen.Memory fault by = of_memory fault by
+
+of_style : (both : Bool) (rows : List Row) (fault : WordsFault) → IsInOneStyle both rows (Err fault) → IsOfValues fault
+of_style true rows fault by = of_told (codes "--json beside --toml\n") fault by
+of_style false rows fault by = of_fault (tester_in rows) (unit_in rows) (limit_in rows) fault by
+
+of_without : (only : Option Text) (rows : List Row) (fault : WordsFault) → IsWithout only rows (Err fault) → IsOfValues fault
+of_without None rows fault by = of_style (asks_for_both rows) rows fault by
+of_without (Some only) rows fault by = of_told (codes "--only without --profile\n") fault by
+
+of_named : (file : Option Text) (rows : List Row) (what : SeenProfile) (fault : WordsFault) → IsNamed file rows what (Err fault) → IsOfValues fault
+of_named None rows what fault by = of_without (first_of (codes "only") rows) rows fault by
+of_named (Some file) rows what fault by = of_seen file rows what fault by
+
 -- why there is no configuration is why there is no plan
-pub refused_for : (asked : Task) (rows : List Row) (fault : WordsFault) → IsConfiguredIn rows (Err fault) → IsRefusedFor asked rows fault
-refused_for asked rows (Help text) by = of_fault (tester_in rows) (unit_in rows) (limit_in rows) (Help text) by
-refused_for asked rows (Words text) by = absurd (of_fault (tester_in rows) (unit_in rows) (limit_in rows) (Words text) by)
-refused_for asked rows Identifier by = by
-refused_for asked rows (Config fault) by = by
-refused_for asked rows Memory by = tt
+pub refused_for : (asked : Task) (rows : List Row) (what : SeenProfile) (fault : WordsFault) → IsConfigured rows what (Err fault) → IsRefusedFor asked rows what fault
+refused_for asked rows what (Help text) by = of_named (first_of (codes "profile") rows) rows what (Help text) by
+refused_for asked rows what (Words text) by = absurd (of_named (first_of (codes "profile") rows) rows what (Words text) by)
+refused_for asked rows what Identifier by = by
+refused_for asked rows what (Config fault) by = by
+refused_for asked rows what (Profile line) by = by
+refused_for asked rows what (Unread line) by = by
+refused_for asked rows what Memory by = tt
 
 -- the same, as a `?` hands it on
-pub refused_when : (asked : Task) (rows : List Row) (result : Result Plan WordsFault) (fault : WordsFault) (config : Result Settings WordsFault)
-    → IsErrAnd result (λ f. f ≡ fault) → config ≡ Err fault → IsConfiguredIn rows config → IfErr result (IsRefusedFor asked rows)
-refused_when asked rows (Ok plan) fault config is failed by = tt
-refused_when asked rows (Err other) fault config is failed by =
-    subst (IsRefusedFor asked rows) (sym is) (refused_for asked rows fault (subst (IsConfiguredIn rows) failed by))
+pub refused_when : (asked : Task) (rows : List Row) (what : SeenProfile) (result : Result Plan WordsFault) (fault : WordsFault) (config : Result Settings WordsFault)
+    → IsErrAnd result (λ f. f ≡ fault) → config ≡ Err fault → IsConfigured rows what config → IfErr result (IsRefusedFor asked rows what)
+refused_when asked rows what (Ok plan) fault config is failed by = tt
+refused_when asked rows what (Err other) fault config is failed by =
+    subst (IsRefusedFor asked rows what) (sym is) (refused_for asked rows what fault (subst (IsConfigured rows what) failed by))

@@ -12,7 +12,7 @@ use Rattle.trace_io.specs.declared.device.Source.{Ghosts as SourceGhosts}
 use Rattle.trace_io.specs.declared.device.Target.{Ghosts as TargetGhosts}
 use Rattle.trace_io.specs.Counted.{CountedReader}
 use Rattle.udsnorm.specs.Asked.{Did, DidAsked, DidWords, IsDone, IsDoneBy, ToldWords, nothing_seen}
-use Rattle.udsnorm.specs.Opening.{Saying, opened, two_files}
+use Rattle.udsnorm.specs.Opening.{Saying}
 use Rattle.udsnorm.specs.Ending.{flushes, has_unclean, is_unclean, status_of_run_of_two}
 use Rattle.trace_run.specs.Script.{GlimpseValue, glimpse_of}
 use Rattle.udsnorm.specs.Commands.{EngineAnswers, PairEngineAnswers}
@@ -29,24 +29,9 @@ use Rattle.udsnorm.specs.declared.job.Plan.{Plan}
 use Rattle.udsnorm.specs.declared.job.Plan.TheVariants.{One, Two}
 use Rattle.udsnorm.specs.declared.job.WordsFault.{WordsFault}
 use Rattle.udsnorm.specs.declared.job.WordsFault.TheVariants as words
+use Rattle.udsnorm.specs.declared.profiled.SeenProfile.{SeenProfile}
 use Rattle.udsnorm.proofs.Pairs.{accepted_pair, same_of_zero}
 use Rattle.udsnorm.proofs.Statuses.{agrees_from_start, answers_from_start, answers_on_more, summary_of_done}
-
-abbrev pub given_by : {F : Type 0} → CountedReader F → List ℕ
-given_by log = log.given
-
--- a file through which nothing was read
-abbrev fresh : {F : Type 0} → F → CountedReader F
-fresh log = record { inner = log; reads = 0; failures = 0; is_over = false; given = [] }
-
--- what is said of a file is said of it where it is to be read
-pub opened_as : {F : Type 0} (says : Saying F → Type 0) {name : List ℕ} {log : F} {reader : CountedReader F} → reader ≡ fresh log → says (opened name log) → says (opened name reader.inner)
-opened_as {F} says {name} is told = subst (λ (r : CountedReader F). says (opened name r.inner)) (sym is) told
-
-pub two_files_as : {F : Type 0} (says : Saying F → Type 0) {one other : F} {left right : CountedReader F} → left ≡ fresh one → right ≡ fresh other
-    → says (two_files one other) → says (two_files left.inner right.inner)
-two_files_as {F} says {one} {other} {left} is_left is_right told =
-    subst (λ (r : CountedReader F). says (two_files left.inner r.inner)) (sym is_right) (subst (λ (l : CountedReader F). says (two_files l.inner other)) (sym is_left) told)
 
 -- what holds of an answer that is well
 of_well : {A E X : Type 0} {answer : Result A E} {value : A} → answer ≡ Ok value → OnOk answer X → X
@@ -150,6 +135,8 @@ done_by says file source output errors (Err (words.Help text)) before old unsaid
 done_by says file source output errors (Err (words.Words text)) before old unsaid status known after new said log (same, known_is, did) zero grown = absurd (omega (arith, did.0, zero))
 done_by says file source output errors (Err words.Identifier) before old unsaid status known after new said log (same, known_is, did) zero grown = absurd (omega (arith, did.0, zero))
 done_by says file source output errors (Err (words.Config reason)) before old unsaid status known after new said log (same, known_is, did) zero grown = absurd (omega (arith, did.0, zero))
+done_by says file source output errors (Err (words.Profile line)) before old unsaid status known after new said log (same, known_is, did) zero grown = absurd (omega (arith, did.0, zero))
+done_by says file source output errors (Err (words.Unread line)) before old unsaid status known after new said log (same, known_is, did) zero grown = absurd (omega (arith, did.0, zero))
 done_by says file source output errors (Err words.Memory) before old unsaid status known after new said log (same, known_is, did) zero grown = absurd (omega (arith, did.0, zero))
 
 -- a run over a log of one name is one over the log of the same name
@@ -180,10 +167,10 @@ did_of_equal says file source output errors plan other before old unsaid status 
     subst (λ (p : Plan). Did says file source output errors p before old unsaid status known after new said) (sym same) did
 
 -- what was done of the words
-pub is_done : {F R W E : Type 0} (says : Saying F → Type 0) (file : SourceGhosts (CountedReader F)) (source : SourceGhosts R) (output : TargetGhosts W) (errors : TargetGhosts E) (given : List Text) (asked : Result Plan WordsFault)
-    (before : R) (old : W) (unsaid : E) (status : ℕ) (known : Option Known) (after : R) (new : W) (said : E) → DidWords says file source output errors given asked before old unsaid status known after new said
-    → status ≡ 0 → (log : List ℕ) → source.given after ≡ source.given before ++ log → IsDone says file given log (output.taken old) (output.taken new)
-is_done says file source output errors given asked before old unsaid status known after new said did zero log grown = record {
+pub is_done : {F R W E : Type 0} (says : Saying F → Type 0) (file : SourceGhosts (CountedReader F)) (source : SourceGhosts R) (output : TargetGhosts W) (errors : TargetGhosts E) (given : List Text) (seen : SeenProfile) (asked : Result Plan WordsFault)
+    (before : R) (old : W) (unsaid : E) (status : ℕ) (known : Option Known) (after : R) (new : W) (said : E) → DidWords says file source output errors given seen asked before old unsaid status known after new said
+    → status ≡ 0 → (log : List ℕ) → source.given after ≡ source.given before ++ log → IsDone says file given seen log (output.taken old) (output.taken new)
+is_done says file source output errors given seen asked before old unsaid status known after new said did zero log grown = record {
   asked = asked;
   planned = did.planned;
   done = done_by says file source output errors asked before old unsaid status known after new said log did.did zero grown;
@@ -200,6 +187,8 @@ module _ {W E : Type 0} (output : TargetGhosts W) (errors : TargetGhosts E) wher
   told_once (words.Words text) old unsaid status new said told zero = absurd (omega (arith, told.0, zero))
   told_once words.Identifier old unsaid status new said told zero = absurd (omega (arith, told.0, zero))
   told_once (words.Config reason) old unsaid status new said told zero = absurd (omega (arith, told.0, zero))
+  told_once (words.Profile line) old unsaid status new said told zero = absurd (omega (arith, told.0, zero))
+  told_once (words.Unread line) old unsaid status new said told zero = absurd (omega (arith, told.0, zero))
   told_once words.Memory old unsaid status new said told zero = absurd (omega (arith, told.0, zero))
 
   same_times : (old new : W) → new ≡ old → output.flushes new ≤ output.flushes old + 1
@@ -212,4 +201,6 @@ module _ {W E : Type 0} (output : TargetGhosts W) (errors : TargetGhosts E) wher
   told_at_most_once (words.Words text) old unsaid status new said told = same_times old new told.1
   told_at_most_once words.Identifier old unsaid status new said told = same_times old new told.1
   told_at_most_once (words.Config reason) old unsaid status new said told = same_times old new told.1
+  told_at_most_once (words.Profile line) old unsaid status new said told = same_times old new told.1
+  told_at_most_once (words.Unread line) old unsaid status new said told = same_times old new told.1
   told_at_most_once words.Memory old unsaid status new said told = same_times old new told.1

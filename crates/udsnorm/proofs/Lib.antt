@@ -1,12 +1,12 @@
 pub mod Statuses
 pub mod Pairs
 pub mod Certificates
+pub mod OpenedFiles
 pub mod Done
 pub mod Engines
 pub mod Configured
 pub mod Built
 pub mod Taken
-pub mod SpelledIdentifiers
 pub mod LineParts
 pub mod ToldTexts
 pub mod Fronts

@@ -8,10 +8,11 @@ use Rattle.trace_log.specs.Devices.{ReadFrom}
 use Rattle.trace_text.specs.declared.notation.Notation.{Notation}
 use Rattle.uds_difference.specs.Rows.{is_shortest, rows_of}
 use Rattle.uds_difference.specs.declared.row.Row.{Row}
-use Rattle.uds_exchange.specs.Meaning.{ItemValue}
+use Rattle.uds_rules.specs.Rule.{RuleValue}
 use Rattle.trace_log.specs.Failing.{FailedIf}
 use Rattle.trace_run.specs.Printed.{Prints}
 use Rattle.trace_log.specs.Settings.{Settings}
+use Rattle.trace_canon.specs.declared.collector.Session.{Session}
 use Rattle.trace_canon.specs.declared.comparer.Compared.{Compared}
 use Rattle.trace_canon.specs.declared.comparer.Comparison.{Comparison}
 use Rattle.trace_canon.specs.declared.comparer.Comparison.TheVariants.{Same, Different}
@@ -41,7 +42,7 @@ use Rattle.udsnorm.proofs.Statuses.{took_still}
 
 -- a comparison, without what the logs mean, and its text
 pub compared_pair : (text : TextOfCompared) (strict : Bool) (limit : ℕ) (settings : Settings) (one other : List ℕ) (answer : Result Compared CompareFault) → Compares limit settings one other answer
-    → ComparesPair text strict limit settings one other (answer_of answer) (text_of_answer strict text answer)
+    → ComparesPair text strict limit settings one other (answer_of answer) (text_of_answer strict text settings.rules answer)
 compared_pair text strict limit settings one other (Ok compared) compares = (compared, compares, refl, refl)
 compared_pair text strict limit settings one other (Err why) compares = (compares, refl)
 
@@ -54,8 +55,8 @@ refused_pair text strict limit settings one other (Err why) some compares = absu
 -- and the left one means an item then, or the right one needs memory
 pub needed_for_difference : (limit : ℕ) (settings : Settings) (one other : List ℕ) (answer : Result Compared CompareFault) → HasItems answer → Compares limit settings one other answer
     → NeedsMemoryForDifference limit settings one other
-needed_for_difference limit settings one other (Ok compared) (inl some) compares = inl (compared.left.meaning, compares.0.means, some)
-needed_for_difference limit settings one other (Ok compared) (inr some) compares = inr (collects_where_items limit settings other compared.right.meaning compares.1.means some)
+needed_for_difference limit settings one other (Ok compared) (inl some) compares = inl (compared.left.meaning, compares.0.accepted.means, some)
+needed_for_difference limit settings one other (Ok compared) (inr some) compares = inr (collects_where_items limit settings other compared.right.meaning compares.1.accepted.means some)
 needed_for_difference limit settings one other (Err why) some compares = absurd some
 
 fault_told : (one other : CompareFault) → ◌≡◌ {A = Result PairAnswer CompareFault} (Err one) (Err other) → one ≡ other
@@ -259,16 +260,16 @@ wrote_by_print target text old new (Err why) wrote printed is = subst (λ (b : B
 })
 
 -- the text of a comparison of logs of which each is clean that has to be
-pub text_of_clean : (strict : Bool) (text : TextOfCompared) (compared : Compared) (answer : Result Compared CompareFault) → answer ≡ Ok compared → has_unclean strict (pair_of compared) ≡ false
-    → text compared ≡ text_of_answer strict text answer
-text_of_clean strict text compared answer is clean =
-    sym (ap (text_of_answer strict text) is ∙ ap (λ (unclean : Bool). if unclean then [] else text compared) clean)
+pub text_of_clean : (strict : Bool) (text : TextOfCompared) (rules : List RuleValue) (compared : Compared) (answer : Result Compared CompareFault) → answer ≡ Ok compared → has_unclean strict (pair_of compared) ≡ false
+    → text rules compared ≡ text_of_answer strict text rules answer
+text_of_clean strict text rules compared answer is clean =
+    sym (ap (text_of_answer strict text rules) is ∙ ap (λ (unclean : Bool). if unclean then [] else text rules compared) clean)
 
 -- the text of a difference, by the rows that were found
-pub difference_is : (notation : Notation) (left_name right_name left_bytes right_bytes : List ℕ) (shortest : Bool) (rows : List Row) (xs ys : List ItemValue) → left_bytes ≡ left_name
-    → right_bytes ≡ right_name → shortest ≡ is_shortest xs ys → rows ≡ rows_of xs ys
-    → written_rows notation left_bytes right_bytes shortest rows xs ys ≡ difference_text notation left_name right_name xs ys
-difference_is notation left_name right_name left_bytes right_bytes shortest rows xs ys left right told found = rw (left, right, told, found) refl
+pub difference_is : (rules : List RuleValue) (notation : Notation) (left_name right_name left_bytes right_bytes : List ℕ) (shortest : Bool) (rows : List Row) (left right : Session) → left_bytes ≡ left_name
+    → right_bytes ≡ right_name → shortest ≡ is_shortest left.meaning right.meaning → rows ≡ rows_of left.meaning right.meaning
+    → written_rows rules notation left_bytes right_bytes shortest rows left right ≡ difference_text rules notation left_name right_name left right
+difference_is rules notation left_name right_name left_bytes right_bytes shortest rows left right one other told found = rw (one, other, told, found) refl
 
 module _ {W : Type 0} (target : TargetGhosts W) where
   pub wrote_and_flushed : (text : List ℕ) (due wrote result : Bool) (first old new : W) → WroteText target text wrote first old → FlushedIf target (due && wrote) wrote old result new

@@ -12,7 +12,7 @@ use Rattle.clap.specs.declared.error.kind.ErrorKind.TheVariants.{DisplayHelp, Di
 use Rattle.clap.specs.declared.parser.matches.ArgMatches.{ArgMatches}
 use Rattle.udsnorm.specs.Commands.{command_in, commands, refusals, words_or_normalise}
 use Rattle.udsnorm.specs.declared.job.WordsFault.{WordsFault}
-use Rattle.udsnorm.specs.declared.job.WordsFault.TheVariants.{Help, Words, Identifier, Config, Memory}
+use Rattle.udsnorm.specs.declared.job.WordsFault.TheVariants.{Help, Words, Identifier, Config, Profile, Unread, Memory}
 use Rattle.udsnorm.specs.Words.{IsCalled, IsRefusedBy}
 
 -- ---- a command is found in words that are taken, where one is needed
@@ -87,3 +87,5 @@ refused_by kinds error (Words text) (inr among) called = (called.3, (kind_of err
 refused_by kinds error Memory has called = tt
 refused_by kinds error Identifier has called = called
 refused_by kinds error (Config reason) has called = called
+refused_by kinds error (Profile line) has called = called
+refused_by kinds error (Unread line) has called = called

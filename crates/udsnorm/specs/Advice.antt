@@ -9,8 +9,8 @@ use Rattle.clap.specs.Walk.{Row, Text, first_of}
 use Rattle.trace_log.specs.declared.fault.ConfigFault.{ConfigFault}
 use Rattle.trace_log.specs.declared.fault.ConfigFault.TheVariants as config
 use Rattle.udsnorm.specs.Commands.{command_in, words_or_normalise}
-use Rattle.udsnorm.specs.Identifiers.{identifier_of}
-use Rattle.udsnorm.specs.Names.{quoted}
+use Rattle.profile.specs.UnitKeys.{identifier_of}
+use Rattle.line_text.specs.Quoted.{quoted}
 use Rattle.udsnorm.specs.declared.job.WordsFault.{WordsFault}
 use Rattle.udsnorm.specs.declared.job.WordsFault.TheVariants as words
 
@@ -101,10 +101,12 @@ IsOfConfig config.IdRange given line = IsOfCommand (command_in (words_or_normali
 IsOfConfig config.SameId given line = IsOfCommand (command_in (words_or_normalise given)) line
 IsOfConfig config.LimitRange given line = line ≡ codes "hint: --limit takes 1 to 1099511627776 bytes\n"
 
--- what is said of words that ask for nothing, by what is wrong with them; nothing of help or refused memory
+-- what is said of words that ask for nothing, by what is wrong with them; nothing of help, of a profile or of refused memory
 abbrev pub IsAdviceFor : WordsFault → List Text → List ℕ → Type 0
 IsAdviceFor (words.Help text) given line = line ≡ []
 IsAdviceFor (words.Words text) given line = IsOfWords given line
 IsAdviceFor words.Identifier given line = IsOfCommand (command_in (words_or_normalise given)) line
 IsAdviceFor (words.Config reason) given line = IsOfConfig reason given line
+IsAdviceFor (words.Profile told) given line = line ≡ []
+IsAdviceFor (words.Unread told) given line = line ≡ []
 IsAdviceFor words.Memory given line = line ≡ []

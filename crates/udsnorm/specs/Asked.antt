@@ -19,6 +19,7 @@ use Rattle.udsnorm.specs.FaultLines.{fault_line, one_stream_line, side_line, wor
 use Rattle.udsnorm.specs.Ending.{has_unclean, is_unclean}
 use Rattle.udsnorm.specs.Known.{IsKnownBy, IsKnownByTwo, knows_unopened}
 use Rattle.udsnorm.specs.Opening.{Saying, one_stream, opened, refused, two_files}
+use Rattle.udsnorm.specs.Profiled.{IsUnread}
 use Rattle.udsnorm.specs.Run.{RanOne, RanTwo}
 use Rattle.udsnorm.specs.Telling.{TookText}
 use Rattle.udsnorm.specs.Values.{page_name, shown_name}
@@ -28,6 +29,7 @@ use Rattle.udsnorm.specs.declared.pair_jobs.PairAnswer.{PairAnswer}
 use Rattle.udsnorm.specs.declared.pair_jobs.PairJob.{PairJob}
 use Rattle.udsnorm.specs.declared.ended.Known.{Known}
 use Rattle.udsnorm.specs.declared.opening.OpenFault.{OpenFault}
+use Rattle.udsnorm.specs.declared.profiled.SeenProfile.{SeenProfile}
 use Rattle.udsnorm.specs.declared.ended.Which.{Which}
 use Rattle.udsnorm.specs.declared.ended.Which.TheVariants.{First, Second}
 use Rattle.udsnorm.specs.declared.job.Plan.{Plan}
@@ -55,12 +57,9 @@ ToldWords output errors (words.Help text) old unsaid status new said = ToldHelp 
 ToldWords output errors (words.Words text) old unsaid status new said = (status ≡ 2) × (new ≡ old) × Took errors (words_text (words.Words text)) unsaid said
 ToldWords output errors words.Identifier old unsaid status new said = (status ≡ 2) × (new ≡ old) × Took errors (words_text words.Identifier) unsaid said
 ToldWords output errors (words.Config reason) old unsaid status new said = (status ≡ 2) × (new ≡ old) × Took errors (words_text (words.Config reason)) unsaid said
+ToldWords output errors (words.Profile line) old unsaid status new said = (status ≡ 2) × (new ≡ old) × Took errors (words_text (words.Profile line)) unsaid said
+ToldWords output errors (words.Unread line) old unsaid status new said = (status ≡ 4) × (new ≡ old) × Took errors (words_text (words.Unread line)) unsaid said
 ToldWords output errors words.Memory old unsaid status new said = (status ≡ 5) × (new ≡ old) × Took errors (words_text words.Memory) unsaid said
-
--- The log of the file that was opened by this name, of which nothing was read.
-pub record IsUnread {F : Type 0} (says : Saying F → Type 0) (file : SourceGhosts (CountedReader F)) (name : List ℕ) (log : CountedReader F) : Type 0 where
-  pub by_name : says (opened name log.inner)
-  pub from_start : file.given log ≡ []
 
 -- A run over the log of the file of this name, from its first byte: all that a run over an input did.
 pub record RanFile {F W E : Type 0} (says : Saying F → Type 0) (file : SourceGhosts (CountedReader F)) (output : TargetGhosts W) (errors : TargetGhosts E) (job : Job) (name : List ℕ) (strict : Bool) (limit : ℕ)
@@ -139,10 +138,10 @@ DidAsked says file source output errors (Ok plan) before old unsaid status known
 DidAsked says file source output errors (Err fault) before old unsaid status known after new said =
     (after ≡ before) × (known ≡ None) × ToldWords output errors fault old unsaid status new said
 
--- What was done of what the words ask for, and what is known of that.
+-- What was done of what the words ask for, with what is seen of their profile, and what is known of that.
 pub record DidWords {F R W E : Type 0} (says : Saying F → Type 0) (file : SourceGhosts (CountedReader F)) (source : SourceGhosts R) (output : TargetGhosts W) (errors : TargetGhosts E) (given : List Text)
-    (asked : Result Plan WordsFault) (before : R) (old : W) (unsaid : E) (status : ℕ) (known : Option Known) (after : R) (new : W) (said : E) : Type 0 where
-  pub planned : IsPlanned given asked
+    (seen : SeenProfile) (asked : Result Plan WordsFault) (before : R) (old : W) (unsaid : E) (status : ℕ) (known : Option Known) (after : R) (new : W) (said : E) : Type 0 where
+  pub planned : IsPlanned given seen asked
   pub did : DidAsked says file source output errors asked before old unsaid status known after new said
 
 -- The reads of the file of this name gave this log, from its first byte to its end.
@@ -174,10 +173,12 @@ IsDoneBy says file (Err (words.Help text)) log before after = after ≡ before +
 IsDoneBy says file (Err (words.Words text)) log before after = ⊥
 IsDoneBy says file (Err words.Identifier) log before after = ⊥
 IsDoneBy says file (Err (words.Config reason)) log before after = ⊥
+IsDoneBy says file (Err (words.Profile line)) log before after = ⊥
+IsDoneBy says file (Err (words.Unread line)) log before after = ⊥
 IsDoneBy says file (Err words.Memory) log before after = ⊥
 
--- What the words ask for was done.
-pub record IsDone {F : Type 0} (says : Saying F → Type 0) (file : SourceGhosts (CountedReader F)) (given : List Text) (log before after : List ℕ) : Type 0 where
+-- What the words ask for, with what is seen of their profile, was done.
+pub record IsDone {F : Type 0} (says : Saying F → Type 0) (file : SourceGhosts (CountedReader F)) (given : List Text) (seen : SeenProfile) (log before after : List ℕ) : Type 0 where
   pub asked : Result Plan WordsFault
-  pub planned : IsPlanned given asked
+  pub planned : IsPlanned given seen asked
   pub done : IsDoneBy says file asked log before after

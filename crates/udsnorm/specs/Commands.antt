@@ -18,19 +18,22 @@ use Rattle.trace_canon.specs.MemoryNeeded.{CompletesKept, NeedsMemoryToCollect, 
 use Rattle.trace_text.specs.ItemLines.{list_text}
 use Rattle.trace_canon.specs.ItemText.{RanOverItems, TextOfItems, WritesItems}
 use Rattle.trace_canon.specs.MessagesScript.{messages_script}
-use Rattle.trace_log.specs.Needing.{HasFrame, IsKeptForMessage, NeedsMemoryToReceive}
+use Rattle.trace_log.specs.Needing.{HasFrame, IsKeptOrMasked, NeedsMemoryToReceive}
 use Rattle.trace_log.specs.Refusal.{HasNoBadPlaceWithin, IsNotRefusedWithin}
-use Rattle.trace_log.specs.Settings.{Settings}
+use Rattle.trace_log.specs.Settings.{Settings, without_rules}
 use Rattle.trace_run.specs.Script.{GlimpseValue, Script, RefusalText, answers_counts, command, needs_none, says_no_refusal}
-use Rattle.trace_run.specs.Ran.{AnswersAndWrites, RanLenient, WritesSaidEagerly}
+use Rattle.trace_run.specs.AnswersAndWrites.{AnswersAndWrites, WritesSaidEagerly}
+use Rattle.trace_run.specs.Ran.{RanLenient}
 use Rattle.trace_canon.specs.WatchScript.{watch_script}
 use Rattle.trace_canon.specs.declared.comparer.Compared.{Compared}
 use Rattle.trace_log.specs.declared.fault.CompareFault.{CompareFault}
 use Rattle.trace_log.specs.declared.fault.Fault.{Fault}
 use Rattle.trace_log.specs.declared.fault.Fault.TheVariants.{Memory, Read, Write}
+use Rattle.trace_canon.specs.declared.credit_lines.CreditStyle.{CreditStyle}
 use Rattle.trace_text.specs.declared.notation.Notation.{Notation}
 use Rattle.trace_log.specs.declared.summary.Summary.{Summary}
 use Rattle.isotp_receive.specs.Trace.{Entry}
+use Rattle.uds_rules.specs.Rule.{RuleValue}
 use Rattle.isotp_receive.specs.declared.TheConstants.{MESSAGE_LIMIT}
 use Rattle.trace_io.specs.declared.device.Source.{Ghosts as SourceGhosts}
 use Rattle.trace_io.specs.declared.device.Target.{Ghosts as TargetGhosts}
@@ -44,7 +47,7 @@ use Rattle.trace_pair.specs.Page.{cause_of_pair, page_of, pair_page}
 use Rattle.trace_pair.specs.Titles.{title_for}
 use Rattle.udsnorm.specs.Ending.{has_unclean}
 use Rattle.udsnorm.specs.Status.{is_refusal}
-use Rattle.udsnorm.specs.Values.{comparison_style_in, notation_in, style_in}
+use Rattle.udsnorm.specs.Values.{comparison_style_in, credit_style_in, notation_in, style_in}
 use Rattle.udsnorm.specs.declared.commands.Job.{Job}
 use Rattle.udsnorm.specs.declared.commands.Job.TheVariants as job
 use Rattle.udsnorm.specs.declared.pair_jobs.PairAnswer.{PairAnswer}
@@ -55,13 +58,13 @@ use Rattle.udsnorm.specs.declared.commands.Task.TheVariants as task
 
 -- ---- options and files
 
--- an option of one value, with the value that it has where it is not given
-abbrev pub option : Text → Text → Rule
-option name default = record (new_rule name) { long = Some name; value_names = 1; defaults = default ∷ [] }
+-- an option of one value
+abbrev pub option : Text → Rule
+option name = record (new_rule name) { long = Some name; value_names = 1 }
 
 -- the option of the limit, a number of 64 bits, with what it is where it is not given
 abbrev pub limit : Text → Rule
-limit default = record (option (codes "limit") default) { parser = Some (Unsigned 0 18446744073709551615) }
+limit default = record (option (codes "limit")) { defaults = default ∷ []; parser = Some (Unsigned 0 18446744073709551615) }
 
 -- an option without a value
 abbrev pub flag : Text → Rule
@@ -71,9 +74,9 @@ flag name = record (new_rule name) { long = Some name; action = Some SetTrue }
 abbrev pub file : Text → Bool → Rule
 file name is_required = record (new_rule name) { required = is_required }
 
--- the identifiers of both sides
+-- the identifiers of both sides, or a profile and one of its units
 abbrev pub sides : List Rule
-sides = option (codes "tester") (codes "7E0") ∷ option (codes "unit") (codes "7E8") ∷ []
+sides = option (codes "tester") ∷ option (codes "unit") ∷ option (codes "profile") ∷ option (codes "only") ∷ []
 
 -- the limit, which is a gibibyte where none is given
 abbrev pub usual_limit : List Rule
@@ -102,6 +105,10 @@ showing = flag (codes "show") ∷ []
 -- that each line is an object of JSON
 abbrev pub as_json : List Rule
 as_json = flag (codes "json") ∷ []
+
+-- that the units are those of a profile, in TOML
+abbrev pub as_toml : List Rule
+as_toml = flag (codes "toml") ∷ []
 
 -- a log that may be named
 abbrev pub one_log : List Rule
@@ -137,29 +144,33 @@ command_entries =
     ∷ record { name = codes "explain"; rules = sides ++ usual_limit ++ one_log ++ as_json ++ strictly ++ hinted; task = λ rows. task.One (job.Explain (notation_in rows)) }
     ∷ record { name = codes "messages"; rules = sides ++ largest_limit ++ one_log ++ as_json ++ strictly ++ hinted; task = λ rows. task.One (job.Messages (notation_in rows)) }
     ∷ record { name = codes "report"; rules = sides ++ largest_limit ++ one_or_two_logs ++ strictly ++ hinted; task = λ rows. report_task (first_of (codes "OTHER") rows) }
-    ∷ record { name = codes "find"; rules = usual_limit ++ one_log ++ as_json ++ hinted; task = λ rows. task.One (job.Find (notation_in rows)) }
+    ∷ record { name = codes "find"; rules = usual_limit ++ one_log ++ as_json ++ as_toml ++ hinted; task = λ rows. task.One (job.Find (credit_style_in rows)) }
     ∷ record { name = codes "compare"; rules = sides ++ usual_limit ++ two_logs ++ showing ++ as_json ++ strictly ++ hinted; task = λ rows. task.Two (pair_job.Compare (comparison_style_in rows)) }
     ∷ record { name = codes "diff"; rules = sides ++ usual_limit ++ two_logs ++ as_json ++ strictly ++ hinted; task = λ rows. task.Two (pair_job.Diff (notation_in rows)) }
     ∷ []
 
 -- What is known of the call that does a job over one log: it is `normalise`, or writes a text of the items of the
--- meaning, or of the pairs of identifiers, at the end; or it is the run of a machine, of which all is known by its
--- script and by the frames for which the machine needs memory. A page's script is in some style, and so is what it
--- says of a refusal, of which the others say nothing.
+-- meaning, or of the pairs of identifiers, at the end; or it explains the log as it is, without rules; or it is the run
+-- of a machine, of which all is known by its script and by the frames for which the machine needs memory. A page's
+-- script is in some style, and so is what it says of a refusal, of which the others say nothing. Texts, scripts and
+-- needs are those of the rules that the messages are under.
 pub data Engine : Type 1 where
   normalises : Engine
-  writes : TextOfItems → Engine
-  finds : Notation → Engine
-  runs : (ℕ → Script) → (ℕ → List Entry → Entry → Type 0) → Engine
+  writes : (List RuleValue → TextOfItems) → Engine
+  finds : CreditStyle → Engine
+  explains : Notation → Engine
+  runs : (ℕ → List RuleValue → Script) → (ℕ → List RuleValue → List Entry → Entry → Type 0) → Engine
   runs_in_style : (List ℕ → Settings → ℕ → Script) → (List ℕ → Settings → ℕ → RefusalText) → Engine
 
 -- what it answers, and what it then writes
 abbrev pub answers_of : Engine → ℕ → Settings → List ℕ → ℕ → Result Summary Fault → List ℕ → List ℕ → Type 0
 answers_of normalises limit settings log given result old new = Answers limit settings log given result old new
-answers_of (writes text) limit settings log given result old new = WritesItems text limit settings log result old new
-answers_of (finds notation) limit settings log given result old new = Finds notation settings log result old new
+answers_of (writes text) limit settings log given result old new = WritesItems (text settings.rules) limit settings log result old new
+answers_of (finds style) limit settings log given result old new = Finds style settings log result old new
+answers_of (explains notation) limit settings log given result old new =
+    AnswersAndWrites (command (explain_script notation limit) says_no_refusal answers_counts needs_none) limit (without_rules settings) log given result old new
 answers_of (runs script needs) limit settings log given result old new =
-    AnswersAndWrites (command (script limit) says_no_refusal answers_counts (needs limit)) limit settings log given result old new
+    AnswersAndWrites (command (script limit settings.rules) says_no_refusal answers_counts (needs limit settings.rules)) limit settings log given result old new
 answers_of (runs_in_style script refusal) limit settings log given result old new =
     (style : List ℕ)
     × AnswersAndWrites (command (script style settings limit) (refusal style settings limit) answers_counts needs_none) limit settings log given result old new
@@ -170,8 +181,10 @@ answers_of (runs_in_style script refusal) limit settings log given result old ne
 abbrev pub writes_eagerly_of : Engine → ℕ → Settings → List ℕ → ℕ → List ℕ → List ℕ → Type 0
 writes_eagerly_of normalises limit settings log given old new = WritesEagerly limit settings log given old new
 writes_eagerly_of (writes text) limit settings log given old new = ⊤
-writes_eagerly_of (finds notation) limit settings log given old new = ⊤
-writes_eagerly_of (runs script needs) limit settings log given old new = WritesSaidEagerly (script limit) limit settings log given old new
+writes_eagerly_of (finds style) limit settings log given old new = ⊤
+writes_eagerly_of (explains notation) limit settings log given old new =
+    WritesSaidEagerly (explain_script notation limit) limit (without_rules settings) log given old new
+writes_eagerly_of (runs script needs) limit settings log given old new = WritesSaidEagerly (script limit settings.rules) limit settings log given old new
 writes_eagerly_of (runs_in_style script refusal) limit settings log given old new =
     (style : List ℕ) × WritesSaidEagerly (script style settings limit) limit settings log given old new
 
@@ -180,17 +193,21 @@ writes_eagerly_of (runs_in_style script refusal) limit settings log given old ne
 abbrev pub unrefused_of : Engine → ℕ → Settings → List ℕ → ℕ → Type 0
 unrefused_of normalises limit settings log = IsNotRefusedWithin limit settings log
 unrefused_of (writes text) limit settings log = IsNotRefusedWithin limit settings log
-unrefused_of (finds notation) limit settings log = HasNoBadPlaceWithin log
+unrefused_of (finds style) limit settings log = HasNoBadPlaceWithin log
+unrefused_of (explains notation) limit settings log = HasNoBadPlaceWithin log
 unrefused_of (runs script needs) limit settings log = HasNoBadPlaceWithin log
 unrefused_of (runs_in_style script refusal) limit settings log = HasNoBadPlaceWithin log
 
--- The log needs memory for it: it has a frame whose bytes are kept for a message of several, or one that completes a
--- message which the engine keeps; or, for `find`, an answer that is credited.
+-- The log needs memory for it: it has a frame whose bytes are kept for a message of several, or whose message is masked,
+-- or one that completes a message which the engine keeps; or, for `find`, one that asks. Where the log is
+-- explained none is masked.
 abbrev pub needs_of : Engine → ℕ → Settings → List ℕ → Type 0
 needs_of normalises limit settings log = NeedsMemoryToOrder limit settings log
 needs_of (writes text) limit settings log = NeedsMemoryToCollect limit settings log
-needs_of (finds notation) limit settings log = NeedsMemoryToFind log
-needs_of (runs script needs) limit settings log = HasFrame (λ T e. IsKeptForMessage limit T e ⊎ needs limit T e) settings log
+needs_of (finds style) limit settings log = NeedsMemoryToFind log
+needs_of (explains notation) limit settings log = NeedsMemoryToReceive limit (without_rules settings) log
+needs_of (runs script needs) limit settings log =
+    HasFrame (λ T e. IsKeptOrMasked limit settings.rules T e ⊎ needs limit settings.rules T e) settings log
 needs_of (runs_in_style script refusal) limit settings log = NeedsMemoryToReceive limit settings log
 
 -- What is known of a run of any engine: what was answered and written, that it was written before more was read, that
@@ -209,23 +226,26 @@ pub record RanAny {R W : Type 0} (source : SourceGhosts R) (target : TargetGhost
 -- what its call promises of it
 abbrev pub RanBy : {R W : Type 0} → SourceGhosts R → TargetGhosts W → Engine → Settings → R → W → Result Summary Fault → R → W → Type 0
 RanBy source target normalises settings = RanAny source target normalises MESSAGE_LIMIT settings
-RanBy source target (writes text) settings = RanOverItems source target text MESSAGE_LIMIT settings
-RanBy source target (finds notation) settings = RanToFind source target notation settings
-RanBy source target (runs script needs) settings = RanLenient source target (command (script MESSAGE_LIMIT) says_no_refusal answers_counts (needs MESSAGE_LIMIT)) settings
+RanBy source target (writes text) settings = RanOverItems source target (text settings.rules) MESSAGE_LIMIT settings
+RanBy source target (finds style) settings = RanToFind source target style settings
+RanBy source target (explains notation) settings =
+    RanLenient source target (command (explain_script notation MESSAGE_LIMIT) says_no_refusal answers_counts needs_none) (without_rules settings)
+RanBy source target (runs script needs) settings =
+    RanLenient source target (command (script MESSAGE_LIMIT settings.rules) says_no_refusal answers_counts (needs MESSAGE_LIMIT settings.rules)) settings
 RanBy source target (runs_in_style script refusal) settings = RanAny source target (runs_in_style script refusal) MESSAGE_LIMIT settings
 
 -- the engine that does this job over one log, which has this name on a page, and of whose source this is seen where it is
 -- refused
 abbrev pub engine_of : Job → List ℕ → GlimpseValue → Engine
 engine_of job.Normalise name seen = normalises
-engine_of (job.List style) name seen = writes (list_text style)
+engine_of (job.List style) name seen = writes (λ rules. list_text rules style)
 engine_of (job.Watch style) name seen = runs (watch_script style) CompletesKept
-engine_of (job.Explain notation) name seen = runs (explain_script notation) (λ limit. needs_none)
-engine_of (job.Messages notation) name seen = runs (messages_script notation) (λ limit. needs_none)
+engine_of (job.Explain notation) name seen = explains notation
+engine_of (job.Messages notation) name seen = runs (messages_script notation) (λ limit rules. needs_none)
 engine_of job.Report name seen =
-    runs_in_style (λ style settings limit. report_script (page_title style name settings) limit)
-    (λ style settings limit. refused_text (page_title style name settings) limit seen)
-engine_of (job.Find notation) name seen = finds notation
+    runs_in_style (λ style settings limit. report_script (page_title style name settings) limit settings.rules)
+    (λ style settings limit. refused_text (page_title style name settings) limit settings.rules seen)
+engine_of (job.Find style) name seen = finds style
 
 -- what it answers, and what it writes
 abbrev pub EngineAnswers : Job → List ℕ → GlimpseValue → ℕ → Settings → List ℕ → ℕ → Result Summary Fault → List ℕ → List ℕ → Type 0
@@ -270,22 +290,23 @@ pub record PairEngine : Type 1 where
 abbrev pub pair_of : Compared → PairAnswer
 pair_of compared = record { comparison = compared.comparison; left = compared.left.summary; right = compared.right.summary }
 
--- a text of a comparison
+-- a text of a comparison, by the rules that the messages are under
 abbrev pub TextOfCompared : Type 0
-TextOfCompared = Compared → List ℕ
+TextOfCompared = List RuleValue → Compared → List ℕ
 
 -- where the logs differ, whose files have these names
 abbrev pub text_of_difference : Notation → List ℕ → List ℕ → TextOfCompared
-text_of_difference notation left_name right_name compared = difference_text notation left_name right_name compared.left.meaning compared.right.meaning
+text_of_difference notation left_name right_name rules compared =
+    difference_text rules notation left_name right_name compared.left compared.right
 
 -- what is written of a comparison: its text, and nothing where a log has to be clean and is not
-abbrev pub text_of_compared : Bool → TextOfCompared → Compared → List ℕ
-text_of_compared strict text compared = if has_unclean strict (pair_of compared) then [] else text compared
+abbrev pub text_of_compared : Bool → TextOfCompared → List RuleValue → Compared → List ℕ
+text_of_compared strict text rules compared = if has_unclean strict (pair_of compared) then [] else text rules compared
 
 -- how the logs compare, and what is written of that; nothing is written of a fault
 abbrev pub ComparesPair : TextOfCompared → Bool → ℕ → Settings → List ℕ → List ℕ → Result PairAnswer CompareFault → List ℕ → Type 0
 ComparesPair text strict limit settings one other (Ok pair) written =
-    (compared : Compared) × Compares limit settings one other (Ok compared) × (pair ≡ pair_of compared) × (written ≡ text_of_compared strict text compared)
+    (compared : Compared) × Compares limit settings one other (Ok compared) × (pair ≡ pair_of compared) × (written ≡ text_of_compared strict text settings.rules compared)
 ComparesPair text strict limit settings one other (Err fault) written = Compares limit settings one other (Err fault) × (written ≡ [])
 
 -- what two logs that are kept are to each other, without what they say
@@ -321,7 +342,7 @@ NeedsMemoryForDifference limit settings one other = MeansItem limit settings one
 -- where memory is refused to the difference of two accepted logs, that is told of the right one
 abbrev pub engine_of_pair : PairJob → List ℕ → List ℕ → GlimpseValue → GlimpseValue → PairEngine
 engine_of_pair (pair_job.Compare style) left_name right_name left_seen right_seen =
-    record { answers = ComparesPair (comparison_text style); left_needs = NeedsMemoryToCollect; right_needs = λ limit settings one. NeedsMemoryToCollect limit settings; unrefused = IsNotRefusedWithin }
+    record { answers = ComparesPair (λ rules. comparison_text rules style); left_needs = NeedsMemoryToCollect; right_needs = λ limit settings one. NeedsMemoryToCollect limit settings; unrefused = IsNotRefusedWithin }
 engine_of_pair (pair_job.Diff notation) left_name right_name left_seen right_seen =
     record { answers = ComparesPair (text_of_difference notation left_name right_name); left_needs = NeedsMemoryToCollect; right_needs = NeedsMemoryForDifference; unrefused = IsNotRefusedWithin }
 engine_of_pair pair_job.Report left_name right_name left_seen right_seen =

@@ -46,6 +46,8 @@ words_text (words.Help text) = string_bytes text
 words_text (words.Words text) = string_bytes text
 words_text words.Identifier = codes "identifier is not three or eight hexadecimal digits\n"
 words_text (words.Config reason) = config_line reason
+words_text (words.Profile line) = line.items
+words_text (words.Unread line) = line.items
 words_text words.Memory = fault_line fault.Memory
 
 -- a clause of a line, where it is so

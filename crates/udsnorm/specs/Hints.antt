@@ -19,6 +19,7 @@ use Rattle.udsnorm.specs.declared.ended.Which.TheVariants.{First, Second}
 use Rattle.udsnorm.specs.declared.job.Plan.{Plan}
 use Rattle.udsnorm.specs.declared.job.Plan.TheVariants.{One, Two}
 use Rattle.udsnorm.specs.declared.job.WordsFault.{WordsFault}
+use Rattle.udsnorm.specs.declared.profiled.SeenProfile.{SeenProfile}
 
 -- ---- the line
 
@@ -55,10 +56,10 @@ awaited_line (Ok (One job strict settings (Some log))) = []
 awaited_line (Ok (Two job strict settings left right)) = []
 awaited_line (Err fault) = []
 
--- That standard input is awaited was told, where these words ask for a job over it.
-pub record ToldAwaited {E : Type 0} (errors : TargetGhosts E) (given : List Text) (old new : E) : Type 0 where
+-- That standard input is awaited was told, where these words ask for a job over it, with what is seen of their profile.
+pub record ToldAwaited {E : Type 0} (errors : TargetGhosts E) (given : List Text) (seen : SeenProfile) (old new : E) : Type 0 where
   pub asked : Result Plan WordsFault
-  pub planned : IsPlanned (words_or_normalise given) asked
+  pub planned : IsPlanned (words_or_normalise given) seen asked
   pub told : TookText (awaited_line asked) (errors.failures old) (errors.failures new) (errors.taken old) (errors.taken new)
 
 -- the words ask for hints: one of them is `--hints`

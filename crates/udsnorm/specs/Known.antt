@@ -84,7 +84,7 @@ knows_dropped_for other count = knows_dropped count
 -- What is known of a log that was accepted, by the job over it, the identifiers, its counts and what the output took:
 -- that it has no pair, where the job was to find some; and else what its counts tell, or how many frames were dropped.
 abbrev pub known_of_done : Job → Settings → Summary → List ℕ → Option Known
-known_of_done (job.Find notation) settings summary taken = knows_no_pair summary taken
+known_of_done (job.Find style) settings summary taken = knows_no_pair summary taken
 known_of_done other settings summary taken = or_else (known_by_counts First settings summary) (knows_dropped_for other summary.dropped)
 
 -- what is known of two logs that were accepted: what the counts of the first one tell, or else those of the second one

@@ -1,7 +1,7 @@
-pub mod Identifiers
 pub mod Values
 pub mod Commands
 pub mod Shown
+pub mod Configured
 pub mod Words
 pub mod Status
 pub mod FaultLines
@@ -9,6 +9,7 @@ pub mod Telling
 pub mod Ending
 pub mod Run
 pub mod Opening
+pub mod Profiled
 pub mod Known
 pub mod Asked
 pub mod Names

@@ -9,3 +9,4 @@ pub data Saying (F : Type 0) : Type 0 where
   refused : List ℕ → OpenFault → Saying F
   one_stream : F → F → Saying F
   two_files : F → F → Saying F
+  shared : F → List ℕ → Saying F

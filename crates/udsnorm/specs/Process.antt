@@ -5,18 +5,20 @@ use Rattle.trace_io.specs.Counted.{CountedReader}
 use Rattle.trace_io.specs.declared.device.Source.{Ghosts as SourceGhosts}
 use Rattle.trace_io.specs.declared.device.Target.{Ghosts as TargetGhosts}
 use Rattle.udsnorm.specs.Asked.{DidWords}
-use Rattle.udsnorm.specs.Commands.{words_or_normalise}
+use Rattle.udsnorm.specs.Commands.{command_in, words_or_normalise}
 use Rattle.udsnorm.specs.Hints.{GaveHint, ToldAwaited, asks_for_hints}
 use Rattle.udsnorm.specs.Opening.{Saying}
+use Rattle.udsnorm.specs.Profiled.{IsSeen}
 use Rattle.udsnorm.specs.declared.ended.Known.{Known}
 use Rattle.udsnorm.specs.declared.job.Plan.{Plan}
 use Rattle.udsnorm.specs.declared.job.WordsFault.{WordsFault}
+use Rattle.udsnorm.specs.declared.profiled.SeenProfile.{SeenProfile}
 use Rattle.udsnorm.specs.declared.Terminals.{Terminals}
 
 -- What the error output took before a run: the line that standard input is read, where somebody waits at a terminal, and
 -- else nothing.
-pub record Awaited {E : Type 0} (errors : TargetGhosts E) (is_awaited : Bool) (given : List Text) (unsaid told : E) : Type 0 where
-  pub line : is_awaited ≡ true → errors.failures unsaid ≡ 0 → ToldAwaited errors given unsaid told
+pub record Awaited {E : Type 0} (errors : TargetGhosts E) (is_awaited : Bool) (given : List Text) (seen : SeenProfile) (unsaid told : E) : Type 0 where
+  pub line : is_awaited ≡ true → errors.failures unsaid ≡ 0 → ToldAwaited errors given seen unsaid told
   pub only_there : is_awaited ≡ false → told ≡ unsaid
   pub only_behind : 0 < errors.failures unsaid → told ≡ unsaid
 
@@ -30,10 +32,13 @@ pub record Hinted {E : Type 0} (errors : TargetGhosts E) (is_wanted : Bool) (ask
 -- What the words ask for was done, with this exit status, and its hint was given. Nothing was written beside.
 pub record Served {F R W E : Type 0} (says : Saying F → Type 0) (file : SourceGhosts (CountedReader F)) (source : SourceGhosts R) (output : TargetGhosts W) (errors : TargetGhosts E) (given : List Text)
     (terminals : Terminals) (before : R) (old : W) (unsaid : E) (status : ℕ) (after : R) (new : W) (said : E) : Type 0 where
+  -- what was seen of the profile that the words name, before anything else was read
+  pub seen : SeenProfile
+  pub profile : IsSeen says file (command_in (words_or_normalise given)) seen
   pub asked : Result Plan WordsFault
   pub known : Option Known
   pub begun : E
   pub told : E
-  pub awaited : Awaited errors (terminals.errors && terminals.input) given unsaid begun
-  pub did : DidWords says file source output errors (words_or_normalise given) asked before old begun status known after new told
+  pub awaited : Awaited errors (terminals.errors && terminals.input) given seen unsaid begun
+  pub did : DidWords says file source output errors (words_or_normalise given) seen asked before old begun status known after new told
   pub hinted : Hinted errors (terminals.errors || asks_for_hints given) asked given known told said

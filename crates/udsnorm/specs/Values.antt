@@ -6,12 +6,14 @@ use Rattle.clap.specs.ValueTests.{is_unsigned_in}
 use Rattle.clap.specs.Walk.{Row, Text, first_of, one_of}
 use Rattle.can_log.specs.declared.frame.Id.{Id}
 use Rattle.trace_canon.specs.declared.comparison_text.ComparisonStyle.{ComparisonStyle}
+use Rattle.trace_canon.specs.declared.credit_lines.CreditStyle.{CreditStyle}
+use Rattle.trace_canon.specs.declared.credit_lines.CreditStyle.TheVariants.{Lines, Profile}
 use Rattle.trace_text.specs.declared.item_style.ItemStyle.{ItemStyle}
 use Rattle.trace_text.specs.declared.item_style.Numbering.{Numbering}
 use Rattle.trace_text.specs.declared.item_style.Numbering.TheVariants.{Shown, Hidden}
 use Rattle.trace_text.specs.declared.notation.Notation.{Notation}
 use Rattle.trace_text.specs.declared.notation.Notation.TheVariants as notation
-use Rattle.udsnorm.specs.Identifiers.{identifier_of}
+use Rattle.profile.specs.UnitKeys.{identifier_of}
 use Rattle.udsnorm.specs.declared.pair_jobs.PairJob.{PairJob}
 use Rattle.udsnorm.specs.declared.pair_jobs.PairJob.TheVariants as pair_job
 
@@ -30,6 +32,10 @@ is_strict rows = is_given (codes "strict") rows
 -- whether lines are objects of JSON, by `--json`
 abbrev pub notation_in : List Row → Notation
 notation_in rows = if is_given (codes "json") rows then notation.Json else notation.Text
+
+-- how credit lines are written: by `--toml` as a profile
+abbrev pub credit_style_in : List Row → CreditStyle
+credit_style_in rows = if is_given (codes "toml") rows then Profile else Lines (notation_in rows)
 
 -- how the lines of items are written
 abbrev pub style_in : List Row → ItemStyle

@@ -1,20 +1,20 @@
 //! What to write instead of words that ask for nothing.
 
 ghost use Rattle.std.specs.Prelude.{◌≡◌, IfOk, map, option_map, string_bytes};
+ghost use Rattle.std.specs.Char.{is_ascii_hexdigit};
+ghost use Rattle.std.specs.List.{list_all};
 ghost use Rattle.clap.specs.Words.{found_of, rows_of, subcommand_rows_of};
 ghost use Rattle.udsnorm.specs.Advice.{IsAdviceFor, IsOfCommand, IsOfFiles, IsOfFirst, IsOfWords, behind_prefix, file_line, files_line, given_line, is_of_bus, is_spelled, line_of_word, value_line, values_line};
 ghost use Rattle.udsnorm.specs.Commands.{command_in, words_or_normalise};
-ghost use Rattle.udsnorm.specs.Identifiers.{identifier_of};
 
 use crate::commands::{COMMANDS, TESTER, UNIT, USUAL_TESTER, USUAL_UNIT};
-use crate::identifiers::{are_digits, identifier};
 use crate::job::WordsFault;
-use crate::names::Quoted;
-use crate::text::line_in;
 use crate::values::text_of;
 use crate::words::found;
 use can_log::Id;
 use clap::ArgMatches;
+use line_text::{Quoted, line_in};
+use profile::identifier_of;
 use std::alloc::{AllocError, Global};
 use std::fs;
 use std::rt::Files;
@@ -52,7 +52,8 @@ pub(crate) fn advice_for<R: AllocGlobal + Files>(
             advice_for_values(alloc, words)
         }
         WordsFault::Config(ConfigFault::LimitRange) => line_in(alloc, OF_THE_LIMIT),
-        WordsFault::Help(_) | WordsFault::Memory => Ok(Vec::new(alloc)),
+        WordsFault::Help(_) | WordsFault::Profile(_) | WordsFault::Unread(_) | WordsFault::Memory =>
+            Ok(Vec::new(alloc)),
     }
 }
 
@@ -195,10 +196,10 @@ fn given_line(alloc: Global, found: &ArgMatches<'_>) -> Result<Vec<u8>, AllocErr
 fn values_line<'a>(alloc: Global, tester: &'a str, unit: &'a str) -> Result<Vec<u8>, AllocError>
     ensures { IfOk result (λ line. line.items ≡ values_line tester.entry.now unit.entry.now) }
 {
-    if !is_of_bus(identifier(tester)) {
+    if !is_of_bus(identifier_of(tester)) {
         return value_line(alloc, "--tester", tester);
     }
-    if !is_of_bus(identifier(unit)) {
+    if !is_of_bus(identifier_of(unit)) {
         return value_line(alloc, "--unit", unit);
     }
     line_in(
@@ -278,4 +279,11 @@ fn is_spelled(digits: &[u8]) -> bool
     ensures { result ≡ is_spelled digits.now }
 {
     are_digits(digits) && (digits.len() == 3 || digits.len() == 8)
+}
+
+/// Whether a text has hexadecimal digits alone.
+fn are_digits(text: &[u8]) -> bool
+    ensures { result ≡ list_all is_ascii_hexdigit text.now }
+{
+    text.iter().all(|byte| byte.is_ascii_hexdigit())
 }

@@ -19,7 +19,7 @@ A LOG is what `candump -l` or `-L` writes. `udsnorm COMMAND --help` has the opti
 Exit status:
   0  done, even if a log holds neither identifier; of two logs: they mean the same
   1  two logs differ
-  2  the command line asks for something that there is not, or both logs are one stream
+  2  wrong arguments, a wrong profile, or one stream for two files
   3  a log is refused
   4  a file can't be opened, or reading or writing failed
   5  out of memory
@@ -128,11 +128,7 @@ fn arg<'a>(alloc: Global, argument: Argument) -> Arg<'a>
     ensures local { result.global ≡ false }
 {
     match argument {
-        Argument::Identifier {
-            name,
-            default,
-            help,
-        } => identifier(alloc, name, default, help),
+        Argument::Text { name, value, help } => text(alloc, name, value, help),
         Argument::Limit { default, help } => limit(alloc, default, help),
         Argument::Flag { name, help } => flag(alloc, name, help),
         Argument::File {
@@ -143,16 +139,15 @@ fn arg<'a>(alloc: Global, argument: Argument) -> Arg<'a>
     }
 }
 
-/// The option of an identifier.
-fn identifier<'a>(alloc: Global, name: &'a str, default: &'a str, help: &'a str) -> Arg<'a>
-    ensures rule { rule_of result ≡ option name.entry.now default.entry.now }
+/// An option that takes a text, which its help calls so.
+fn text<'a>(alloc: Global, name: &'a str, value: &'a str, help: &'a str) -> Arg<'a>
+    ensures rule { rule_of result ≡ option name.entry.now }
     ensures local { result.global ≡ false }
 {
     Arg::new(alloc, name)
         .long(name)
-        .value_name("ID")
+        .value_name(value)
         .help(help)
-        .default_value(default)
 }
 
 /// The option of the limit, which is this where it is not given.

@@ -10,10 +10,10 @@ ghost use Rattle.udsnorm.specs.Commands.{RanAny, RanBy, engine_of, report_task, 
 ghost use Rattle.trace_log.specs.Devices.{HasLowCounts};
 
 use crate::pair_jobs::PairJob;
-use crate::values::{comparison_style, notation, style, text_of};
+use crate::values::{comparison_style, credit_style, notation, style, text_of};
 use clap::ArgMatches;
 use std::alloc::Global;
-use trace_canon::{explain, find, list, messages, normalise, watch};
+use trace_canon::{CreditStyle, explain, find, list, messages, normalise, watch};
 use trace_io::{Source, Target};
 use trace_log::{Config, Fault, Summary};
 use trace_report::{report, report_style};
@@ -34,8 +34,8 @@ pub enum Job {
     Messages(Notation),
     /// Writes the session as a page of HTML.
     Report,
-    /// Writes the pairs of identifiers that ask and answer, in this notation.
-    Find(Notation),
+    /// Writes each identifier that answers with the one that asks it, in this style.
+    Find(CreditStyle),
 }
 
 /// What a command asks for.
@@ -59,10 +59,11 @@ pub(crate) struct CommandRow {
 /// An option or a file of a command.
 #[derive(Clone, Copy)]
 pub(crate) enum Argument {
-    /// An option that takes an identifier, and which one that is where none is given.
-    Identifier {
+    /// An option that takes a text, and what its help calls that. What is meant where it is not given, its help says: that it
+    /// is given can be told then.
+    Text {
         name: &'static str,
-        default: &'static str,
+        value: &'static str,
         help: &'static str,
     },
     /// The option of the limit, which is this where none is given.
@@ -119,7 +120,14 @@ pub(crate) const COMMANDS: &[CommandRow] = &[
     CommandRow {
         name: "explain",
         about: "Writes which frames were dropped and which receptions ended early, and why",
-        arguments: &[SIDES, USUAL_LIMIT, ONE_LOG, AS_JSON, STRICTLY, HINTED],
+        arguments: &[
+            SIDES_OF_THE_LOG,
+            USUAL_LIMIT,
+            ONE_LOG,
+            AS_JSON,
+            STRICTLY,
+            HINTED,
+        ],
     },
     CommandRow {
         name: "messages",
@@ -134,7 +142,7 @@ pub(crate) const COMMANDS: &[CommandRow] = &[
     CommandRow {
         name: "find",
         about: "Writes which identifiers ask and which answer, for a log whose identifiers nobody told",
-        arguments: &[USUAL_LIMIT, ONE_LOG, AS_JSON, HINTED],
+        arguments: &[USUAL_LIMIT, ONE_LOG, AS_JSON, AS_TOML, HINTED],
     },
     CommandRow {
         name: "compare",
@@ -185,6 +193,10 @@ pub(crate) const TESTER: &str = "tester";
 
 pub(crate) const UNIT: &str = "unit";
 
+pub(crate) const PROFILE: &str = "profile";
+
+pub(crate) const ONLY: &str = "only";
+
 pub(crate) const LIMIT: &str = "limit";
 
 pub(crate) const NO_NUMBERS: &str = "no-numbers";
@@ -192,6 +204,8 @@ pub(crate) const NO_NUMBERS: &str = "no-numbers";
 pub(crate) const STRICT: &str = "strict";
 
 pub(crate) const JSON: &str = "json";
+
+pub(crate) const TOML: &str = "toml";
 
 pub(crate) const SHOW: &str = "show";
 
@@ -210,19 +224,60 @@ pub(crate) const USUAL_TESTER: &str = "7E0";
 
 pub(crate) const USUAL_UNIT: &str = "7E8";
 
-/// The options and files of commands.
+/// The options and files of commands: first the identifiers of both sides, or a profile that has them, with what is left out.
 const SIDES: &[Argument] = &[
-    Argument::Identifier {
+    Argument::Text {
         name: TESTER,
-        default: USUAL_TESTER,
-        help: "Identifier of the tester, 3 or 8 hexadecimal digits",
+        value: "ID",
+        help: OF_THE_TESTER,
     },
-    Argument::Identifier {
+    Argument::Text {
         name: UNIT,
-        default: USUAL_UNIT,
-        help: "Identifier of the control unit, 3 or 8 hexadecimal digits",
+        value: "ID",
+        help: OF_THE_UNIT,
+    },
+    Argument::Text {
+        name: PROFILE,
+        value: "FILE",
+        help: "What to leave out of the session, and the units of the bench, as TOML",
+    },
+    Argument::Text {
+        name: ONLY,
+        value: "NAME",
+        help: OF_ONE_UNIT,
     },
 ];
+
+/// The same of a command that tells of the log as it is: of a profile it takes the identifiers alone.
+const SIDES_OF_THE_LOG: &[Argument] = &[
+    Argument::Text {
+        name: TESTER,
+        value: "ID",
+        help: OF_THE_TESTER,
+    },
+    Argument::Text {
+        name: UNIT,
+        value: "ID",
+        help: OF_THE_UNIT,
+    },
+    Argument::Text {
+        name: PROFILE,
+        value: "FILE",
+        help: "The units of the bench, as TOML; nothing is left out here",
+    },
+    Argument::Text {
+        name: ONLY,
+        value: "NAME",
+        help: OF_ONE_UNIT,
+    },
+];
+
+const OF_THE_TESTER: &str = "Identifier of the tester, 3 or 8 hexadecimal digits [default: 7E0]";
+
+const OF_THE_UNIT: &str =
+    "Identifier of the control unit, 3 or 8 hexadecimal digits [default: 7E8]";
+
+const OF_ONE_UNIT: &str = "The unit of the profile whose session this is";
 
 const USUAL_LIMIT: &[Argument] = &[Argument::Limit {
     default: USUALLY,
@@ -270,6 +325,11 @@ const AS_JSON: &[Argument] = &[Argument::Flag {
     help: "Writes an object of JSON in each line",
 }];
 
+const AS_TOML: &[Argument] = &[Argument::Flag {
+    name: TOML,
+    help: "Writes the units as a profile, in TOML",
+}];
+
 const ONE_LOG: &[Argument] = &[Argument::File {
     name: LOG,
     is_required: false,
@@ -313,7 +373,7 @@ pub(crate) fn task_named(name: &str, found: &ArgMatches<'_>) -> Task
         "explain" => Task::One(Job::Explain(notation(found))),
         "messages" => Task::One(Job::Messages(notation(found))),
         "report" => report_task(found),
-        "find" => Task::One(Job::Find(notation(found))),
+        "find" => Task::One(Job::Find(credit_style(found))),
         "compare" => Task::Two(PairJob::Compare(comparison_style(found))),
         "diff" => Task::Two(PairJob::Diff(notation(found))),
         _ => Task::One(Job::Normalise),
@@ -367,7 +427,7 @@ fn call_engine<R: Source, W: Target>(
         Job::Explain(notation) => explain(alloc, config, notation, input, out),
         Job::Messages(notation) => messages(alloc, config, notation, input, out),
         Job::Report => report(alloc, config, report_style(), name.as_bytes(), input, out),
-        Job::Find(notation) => find(alloc, config, notation, input, out),
+        Job::Find(style) => find(alloc, config, style, input, out),
     }
 }
 
@@ -451,9 +511,10 @@ Exit status: 0 done, and two logs are the same, 1 two logs differ, 2 wrong words
 Example: udsnorm report recorded.log > recorded.html";
 
 const OF_FIND: &str = "\
-A line is a pair of identifiers and how often the second answered a request of the first, the
-most first. The words behind the number can be handed to the other commands. It is written at
-the end of the log. Only frames that begin a message are looked at.
+A line is an identifier that answered, behind its tester, and how many of the tester's requests
+it answered, the most first. The words behind the number can be handed to the other commands.
+With `--toml` it is a unit for a profile. All is written at the end of the log. Only frames that
+begin a message are looked at.
 
 A log in which nothing is answered has no line, and the status is 0.
 

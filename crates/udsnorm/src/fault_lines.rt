@@ -106,14 +106,15 @@ pub(crate) fn unclean_side(log: &'static str, summary: &Summary) -> Line
 }
 
 /// The text of words that ask for nothing: the parser's, which ends with a line feed, or a line.
-pub(crate) fn words_text(fault: &WordsFault) -> &str
+pub(crate) fn words_text(fault: &WordsFault) -> &[u8]
     ensures { result.now ≡ words_text fault.now }
 {
     match fault {
-        WordsFault::Help(text) | WordsFault::Words(text) => text.as_str(),
-        WordsFault::Identifier => "identifier is not three or eight hexadecimal digits\n",
-        WordsFault::Config(fault) => config_line(*fault),
-        WordsFault::Memory => "out of memory\n",
+        WordsFault::Help(text) | WordsFault::Words(text) => text.as_bytes(),
+        WordsFault::Identifier => b"identifier is not three or eight hexadecimal digits\n",
+        WordsFault::Config(fault) => config_line(*fault).as_bytes(),
+        WordsFault::Profile(line) | WordsFault::Unread(line) => line.as_slice(),
+        WordsFault::Memory => b"out of memory\n",
     }
 }
 

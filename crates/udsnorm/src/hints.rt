@@ -8,9 +8,10 @@ use crate::advice::advice_for;
 use crate::ended::{Known, Run, name_of};
 use crate::hint_lines::HintLine;
 use crate::job::{Plan, WordsFault};
+use crate::profiled::SeenProfile;
 use crate::tell::tell_text;
-use crate::text::line_in;
 use crate::words::plan;
+use line_text::line_in;
 use std::alloc::{AllocError, Global};
 use std::rt::Files;
 use trace_io::Target;
@@ -40,14 +41,20 @@ pub fn give_hint<R: AllocGlobal + Files, E: Target>(
 /// Tells that standard input is awaited, where the words ask for a job over it and this is to be told. Where the error
 /// output had failed before, it is left out.
 #[tactic(auto, using(crate::proofs::Awaited::low_after))]
-pub fn tell_awaited<E: Target>(alloc: Global, words: &[String], is_wanted: bool, err: &mut E)
-    ensures told { is_wanted ≡ true → E.failures err.old ≡ 0 → ToldAwaited E.Target (map string_bytes words.now) err.old err.new }
+pub fn tell_awaited<E: Target>(
+    alloc: Global,
+    words: &[String],
+    seen: &SeenProfile,
+    is_wanted: bool,
+    err: &mut E,
+)
+    ensures told { is_wanted ≡ true → E.failures err.old ≡ 0 → ToldAwaited E.Target (map string_bytes words.now) seen.now err.old err.new }
     ensures failed { 0 < E.failures err.old → err.new ≡ err.old }
     ensures unwanted { is_wanted ≡ false → err.new ≡ err.old }
     ensures low { IsLowCount (E.failures err.old) → IsLowCount (E.failures err.new) }
 {
     if is_wanted && err.failures() == 0 {
-        let asked = plan(alloc, words);
+        let asked = plan(alloc, words, seen);
         tell_text(awaited_line(&asked).as_bytes(), err);
     }
 }

@@ -44,6 +44,12 @@ pub enum WordsFault {
     /// There is no configuration of these identifiers and this limit.
     #[error("{0}")]
     Config(ConfigFault),
+    /// The words and their profile don't fit, or something is wrong in the profile. This is the line of that.
+    #[error("the profile is wrong")]
+    Profile(Vec<u8>),
+    /// The profile can't be opened, or reading it failed. This is the line of that.
+    #[error("the profile can't be read")]
+    Unread(Vec<u8>),
     /// Memory was refused.
     #[error("out of memory")]
     Memory,

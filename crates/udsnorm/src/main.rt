@@ -34,13 +34,14 @@ mod ended;
 mod fault_lines;
 mod hint_lines;
 mod hints;
-mod identifiers;
 mod job;
 mod names;
 mod noticing;
 mod opening;
 mod pair_jobs;
+mod profiled;
 mod run;
+mod settings;
 mod shown;
 mod stream;
 mod tell;
@@ -55,6 +56,7 @@ use crate::job::{Plan, WordsFault};
 use crate::noticing::Noticing;
 use crate::opening::{OpenFault, Opener};
 use crate::pair_jobs::PairJob;
+use crate::profiled::{SeenProfile, seen_profile};
 use crate::run::{run_one, run_two};
 use crate::tell::{tell, tell_fault, tell_one_stream, tell_side};
 use crate::values::{page_name, shown_name};
@@ -152,8 +154,9 @@ fn serve<R: AllocGlobal + Files + Opener, I: Read, W: Target, E: Target>(
     requires err { IsLowCount (E.failures err.old) }
     ensures served { Served (R.says rt.now) ⟦<Noticing<R::Log> as Source>⟧ ⟦<Noticing<I> as Source>⟧ W.Target E.Target (map string_bytes words.now) terminals input.old out.old err.old result input.new out.new err.new }
 {
-    tell_awaited(rt.alloc(), words, is_awaited(terminals), err);
-    let run = run_words(rt, words, input, out, err);
+    let profile = seen_profile(rt, words);
+    tell_awaited(rt.alloc(), words, &profile, is_awaited(terminals), err);
+    let run = run_words(rt, words, &profile, input, out, err);
     hint_where_wanted(rt, is_hinted(terminals, words), words, &run, err);
     run.end.status
 }
@@ -197,10 +200,12 @@ fn given_words<R: AllocGlobal + Env>(rt: &R) -> Result<Vec<String>, WordsFault> 
     }
 }
 
-/// Does what the words ask for, over the input where they name no file. Answers that, and how it ended.
+/// Does what the words ask for, with what is seen of the profile that they name, over the input where they name no log.
+/// Answers that, and how it ended.
 fn run_words<R: AllocGlobal + Opener, I: Read, W: Target, E: Target>(
     rt: &R,
     words: &[String],
+    profile: &SeenProfile,
     input: &mut Noticing<I>,
     out: &mut W,
     err: &mut E,
@@ -209,18 +214,18 @@ fn run_words<R: AllocGlobal + Opener, I: Read, W: Target, E: Target>(
     requires out { IsLowCount (W.failures out.old) }
     requires err { IsLowCount (E.failures err.old) }
 
-    // For each status: what the words ask for, what was done of it, from the input's reads to the output's writes and the
+    // For each status: what the words and their profile ask for, what was done of it, from the input's reads to the output's writes and the
     // error output's, and what is then known for a hint.
-    ensures run { DidWords (R.says rt.now) ⟦<Noticing<R::Log> as Source>⟧ ⟦<Noticing<I> as Source>⟧ W.Target E.Target (words_or_normalise (map string_bytes words.now)) result.asked input.old out.old err.old result.end.status result.end.known input.new out.new err.new }
+    ensures run { DidWords (R.says rt.now) ⟦<Noticing<R::Log> as Source>⟧ ⟦<Noticing<I> as Source>⟧ W.Target E.Target (words_or_normalise (map string_bytes words.now)) profile.now result.asked input.old out.old err.old result.end.status result.end.known input.new out.new err.new }
 
     // With status 0 it is done: the output's writes took what is asked for, of the bytes that the input's reads gave.
     ensures done { result.end.status ≡ 0 → (log : List ℕ) → input.new.given ≡ input.old.given ++ log
-        → IsDone (R.says rt.now) ⟦<Noticing<R::Log> as Source>⟧ (words_or_normalise (map string_bytes words.now)) log (W.taken out.old) (W.taken out.new) }
+        → IsDone (R.says rt.now) ⟦<Noticing<R::Log> as Source>⟧ (words_or_normalise (map string_bytes words.now)) profile.now log (W.taken out.old) (W.taken out.new) }
     ensures flushed { result.end.status ≡ 0 → W.is_flushed out.new ≡ true }
     ensures once { result.end.status ≡ 0 → W.flushes out.new ≡ W.flushes out.old + 1 }
     ensures flushes { W.flushes out.new ≤ W.flushes out.old + 1 }
 {
-    match plan(rt.alloc(), words) {
+    match plan(rt.alloc(), words, profile) {
         Ok(plan) => {
             let end = carry_out(rt, &plan, input, out, err);
             Run {

@@ -1,9 +1,9 @@
 //! The files of logs, opened by their names.
 
 ghost use Rattle.std.specs.Prelude.{◌≡◌, MatchResult, false, string_bytes, true};
-ghost use Rattle.udsnorm.specs.Opening.{Saying, one_stream, opened, refused, two_files};
+ghost use Rattle.udsnorm.specs.Opening.{Saying, one_stream, opened, refused, shared, two_files};
 
-use crate::stream::is_one_stream;
+use crate::stream::{is_one_stream, is_stream_with};
 use std::fs::{self, OpenFile};
 use std::io::{Error, ErrorKind, IsTerminal, Read};
 use std::rt::Files;
@@ -36,6 +36,10 @@ pub trait Opener {
     fn are_one_stream(&self, left: &Self::Log, right: &Self::Log) -> bool
         ensures one { result ≡ true → says self.now (one_stream left.now right.now) }
         ensures two { result ≡ false → says self.now (two_files left.now right.now) };
+
+    /// Whether a file is one stream with that of this name, which is not opened for this.
+    fn is_stream_of(&self, file: &Self::Log, name: &str) -> bool
+        ensures { result ≡ true → says self.now (shared file.now name.now) };
 }
 
 impl<R: Files> Opener for R
@@ -58,6 +62,13 @@ where
 
     fn are_one_stream(&self, left: &R::File, right: &R::File) -> bool {
         is_one_stream(left, right)
+    }
+
+    fn is_stream_of(&self, file: &R::File, name: &str) -> bool {
+        match fs::metadata(self, name) {
+            Ok(named) => is_stream_with(file, &named),
+            Err(_) => false,
+        }
     }
 }
 

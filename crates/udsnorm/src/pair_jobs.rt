@@ -28,6 +28,7 @@ use trace_report::{RefusalCause, cause_of};
 use trace_run::Glimpse;
 use trace_text::Notation;
 use uds_difference::Difference;
+use uds_rules::Rules;
 
 /// What the program does with two logs.
 #[derive(Clone, Copy, PartialEq, Eq)]
@@ -161,13 +162,20 @@ pub(crate) fn do_pair_job<A: Source, B: Source, W: Target>(
             let answer = compare(alloc, config, left, right);
             PairDone {
                 answer: answer_of(&answer),
-                wrote: write_answer(&answer, strict, style, out),
+                wrote: write_answer(&answer, strict, style, config.rules(), out),
             }
         }
         PairJob::Diff(notation) => {
             let compared = compare(alloc, config, left, right);
             match write_diff(
-                alloc, left_name, right_name, &compared, strict, notation, out,
+                alloc,
+                left_name,
+                right_name,
+                &compared,
+                strict,
+                notation,
+                config.rules(),
+                out,
             ) {
                 Ok(wrote) => PairDone {
                     answer: answer_of(&compared),
@@ -216,16 +224,17 @@ fn write_answer<W: Target>(
     answer: &Result<Compared, CompareFault>,
     strict: bool,
     style: ComparisonStyle,
+    rules: &Rules,
     out: &mut W,
 ) -> bool
     requires { IsLowCount (W.failures out.old) }
-    ensures text { WroteText W.Target (text_of_answer strict (comparison_text style) answer.now) result out.old out.new }
+    ensures text { WroteText W.Target (text_of_answer strict (λ under. comparison_text under style) rules.now answer.now) result out.old out.new }
     ensures left_alone { has_text (PairJob.Compare style) strict (answer_of answer.now) ≡ false → (result ≡ true) × (out.new ≡ out.old) }
     ensures flushes { W.flushes out.new ≡ W.flushes out.old }
 {
     match answer {
         Ok(compared) if !has_unclean(strict, &pair_of(compared)) => {
-            write_comparison(compared, style, out).is_ok()
+            write_comparison(compared, style, rules, out).is_ok()
         }
         _ => true,
     }
@@ -240,10 +249,11 @@ fn write_diff<W: Target>(
     answer: &Result<Compared, CompareFault>,
     strict: bool,
     notation: Notation,
+    rules: &Rules,
     out: &mut W,
 ) -> Result<bool, AllocError>
     requires { IsLowCount (W.failures out.old) }
-    ensures text { IfOk result (λ wrote. WroteText W.Target (text_of_answer strict (text_of_difference notation left_name.now right_name.now) answer.now) wrote out.old out.new) }
+    ensures text { IfOk result (λ wrote. WroteText W.Target (text_of_answer strict (text_of_difference notation left_name.now right_name.now) rules.now answer.now) wrote out.old out.new) }
     ensures left_alone { has_text (PairJob.Diff notation) strict (answer_of answer.now) ≡ false → (result ≡ Ok true) × (out.new ≡ out.old) }
     ensures flushes { W.flushes out.new ≡ W.flushes out.old }
     ensures answered { IfErr result (λ refused. HasItems answer.now) }
@@ -252,7 +262,7 @@ fn write_diff<W: Target>(
 {
     match answer {
         Ok(compared) if !has_unclean(strict, &pair_of(compared)) => {
-            write_differing(alloc, left_name, right_name, compared, notation, out)
+            write_differing(alloc, left_name, right_name, compared, notation, rules, out)
         }
         _ => Ok(true),
     }
@@ -265,10 +275,11 @@ fn write_differing<W: Target>(
     right_name: &str,
     compared: &Compared,
     notation: Notation,
+    rules: &Rules,
     out: &mut W,
 ) -> Result<bool, AllocError>
     requires { IsLowCount (W.failures out.old) }
-    ensures text { IfOk result (λ wrote. WroteText W.Target (text_of_difference notation left_name.now right_name.now compared.now) wrote out.old out.new) }
+    ensures text { IfOk result (λ wrote. WroteText W.Target (text_of_difference notation left_name.now right_name.now rules.now compared.now) wrote out.old out.new) }
     ensures flushes { W.flushes out.new ≡ W.flushes out.old }
     ensures items { IfErr result (λ refused. (compared.now.left.meaning ≢ []) ⊎ (compared.now.right.meaning ≢ [])) }
     ensures nothing { IfErr result (λ refused. WroteText W.Target [] true out.old out.new) }
@@ -276,14 +287,14 @@ fn write_differing<W: Target>(
 {
     let left = NamedSession {
         name: left_name.as_bytes(),
-        items: &compared.left.meaning,
+        session: &compared.left,
     };
     let right = NamedSession {
         name: right_name.as_bytes(),
-        items: &compared.right.meaning,
+        session: &compared.right,
     };
-    let difference = Difference::between(alloc, left.items, right.items)?;
-    Ok(write_difference(&difference, left, right, notation, out).is_ok())
+    let difference = Difference::between(alloc, &compared.left.meaning, &compared.right.meaning)?;
+    Ok(write_difference(&difference, left, right, notation, rules, out).is_ok())
 }
 
 /// An answer about two logs that are kept, without what they say.

@@ -12,6 +12,14 @@ pub(crate) fn is_one_stream<F: OpenFile + IsTerminal>(left: &F, right: &F) -> bo
     }
 }
 
+/// Whether a file is the pipe or terminal of which the system tells this.
+pub(crate) fn is_stream_with<F: OpenFile + IsTerminal>(file: &F, named: &Metadata) -> bool {
+    match file.metadata() {
+        Ok(found) => is_one_node(&found, named) && is_stream(&found, file.is_terminal()),
+        Err(_) => false,
+    }
+}
+
 /// Whether the system has both at one place.
 fn is_one_node(one: &Metadata, other: &Metadata) -> bool {
     one.dev() == other.dev() && one.ino() == other.ino()

@@ -22,12 +22,19 @@ pub fn tell<W: Target, E: Target>(fault: &WordsFault, out: &mut W, err: &mut E) 
     requires err { IsLowCount (E.failures err.old) }
     ensures { ToldWords W.Target E.Target fault.now out.old err.old result out.new err.new }
 {
-    let text = words_text(fault).as_bytes();
+    let text = words_text(fault);
     match fault {
         WordsFault::Help(_) => tell_help(text, out, err),
-        WordsFault::Words(_) | WordsFault::Identifier | WordsFault::Config(_) => {
+        WordsFault::Words(_)
+        | WordsFault::Identifier
+        | WordsFault::Config(_)
+        | WordsFault::Profile(_) => {
             tell_text(text, err);
             2
+        }
+        WordsFault::Unread(_) => {
+            tell_text(text, err);
+            4
         }
         WordsFault::Memory => {
             tell_text(text, err);

@@ -1,10 +1,9 @@
-//! Lines of text, said by their parts: without memory, where a fault is told, and in memory.
+//! Lines of text, said by their parts without memory: a fault is told so.
 
-ghost use Rattle.std.specs.Prelude.{◌≡◌, ◌≤◌, IfOk, length};
+ghost use Rattle.std.specs.Prelude.{◌≡◌, ◌≤◌, length};
 ghost use Rattle.udsnorm.specs.declared.text.TheConstants.{LONGEST_LINE};
 
 use arrayvec::ArrayVec;
-use std::alloc::{AllocError, Global};
 use text_parts::{Part, say};
 use trace_io::TextSink;
 
@@ -22,21 +21,6 @@ pub(crate) fn line_of<P: Part>(part: P) -> Line
     let mut sink = BoundedLineSink { line: Line::new() };
     say(&mut sink, part);
     sink.line
-}
-
-/// The line of this text in memory.
-pub(crate) fn line_in<P: Part>(alloc: Global, part: P) -> Result<Vec<u8>, AllocError>
-    ensures { IfOk result (λ line. line.items ≡ P.text part) }
-{
-    let mut sink = MemorySink {
-        line: Vec::new(alloc),
-        is_refused: false,
-    };
-    say(&mut sink, part);
-    if sink.is_refused {
-        return Err(AllocError);
-    }
-    Ok(sink.line)
 }
 
 /// A line that is made without memory. What has no room there is left out.
@@ -57,31 +41,5 @@ impl TextSink for BoundedLineSink {
 
     fn put(&mut self, text: &[u8]) {
         let _ = self.line.try_extend_from_slice(text);
-    }
-}
-
-/// A line that is made in memory, and whether that was refused.
-#[derive(Drop)]
-struct MemorySink {
-    line: Vec<u8>,
-    is_refused: bool,
-}
-
-impl TextSink for MemorySink {
-    ghost use Rattle.udsnorm.specs.proving.Sinks.{TookUnlessRefused, took_nothing_yet, took_onward_unless_refused};
-
-    ghost says = { λ old text new. TookUnlessRefused old.is_refused old.line.items text new.is_refused new.line.items };
-
-    ghost nothing = { λ s. took_nothing_yet s.is_refused s.line.items };
-
-    ghost onward = { λ s m t a b one two. took_onward_unless_refused s.is_refused m.is_refused t.is_refused s.line.items m.line.items t.line.items a b one two };
-
-    fn put(&mut self, text: &[u8]) {
-        if self.is_refused {
-            return;
-        }
-        if let Err(_refused) = self.line.extend_from_slice(text) {
-            self.is_refused = true;
-        }
     }
 }

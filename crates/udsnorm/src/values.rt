@@ -2,13 +2,13 @@
 
 ghost use Rattle.std.specs.Prelude.{◌≡◌, option_map};
 ghost use Rattle.clap.specs.Words.{first_of, found_of, rows_of};
-ghost use Rattle.udsnorm.specs.Values.{comparison_style_in, is_given, is_strict as strict_in, notation_in, numbering_in, page_name, page_name_beside, shown_name, style_in};
+ghost use Rattle.udsnorm.specs.Values.{comparison_style_in, credit_style_in, is_given, is_strict as strict_in, notation_in, numbering_in, page_name, page_name_beside, shown_name, style_in};
 
-use crate::commands::{JSON, NO_NUMBERS, SHOW, STRICT};
+use crate::commands::{JSON, NO_NUMBERS, SHOW, STRICT, TOML};
 use crate::pair_jobs::PairJob;
 use clap::ArgMatches;
 use std::path::Path;
-use trace_canon::ComparisonStyle;
+use trace_canon::{ComparisonStyle, CreditStyle};
 use trace_text::{ItemStyle, Notation, Numbering};
 
 /// How the lines of items are written.
@@ -28,6 +28,17 @@ pub(crate) fn comparison_style(found: &ArgMatches<'_>) -> ComparisonStyle
     ComparisonStyle {
         shows_items: is_given(found, SHOW),
         notation: notation(found),
+    }
+}
+
+/// How credit lines are written.
+pub(crate) fn credit_style(found: &ArgMatches<'_>) -> CreditStyle
+    ensures { result ≡ credit_style_in (rows_of (found_of found.now)) }
+{
+    if is_given(found, TOML) {
+        CreditStyle::Profile
+    } else {
+        CreditStyle::Lines(notation(found))
     }
 }
 

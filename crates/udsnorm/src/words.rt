@@ -3,32 +3,32 @@
 ghost use Rattle.std.specs.Prelude.{◌≡◌, Some, None, IfOk, IfErr, IsSome, map, option_map, string_bytes};
 ghost use Rattle.clap.specs.Words.{FailsBy, found_of, kind_of, rows_of, subcommand_rows_of};
 ghost use Rattle.udsnorm.specs.Commands.{command_in, refusals, words_or_normalise};
-ghost use Rattle.udsnorm.specs.Identifiers.{identifier_of};
-ghost use Rattle.udsnorm.specs.Words.{IsCalled, IsConfiguredBy, IsConfiguredIn, IsPlanOf, IsPlanned, IsPlannedFrom, IsRefusedFor};
+ghost use Rattle.udsnorm.specs.Words.{IsCalled, IsPlanOf, IsPlanned, IsPlannedFrom, IsRefusedFor};
 ghost use Rattle.udsnorm.specs.Shown.{IsShown};
 
 use crate::command::command;
-use crate::commands::{Job, LIMIT, LOG, TESTER, Task, UNIT, USUAL_TESTER, USUAL_UNIT, task_named};
-use crate::identifiers::identifier;
+use crate::commands::{Job, LOG, Task, task_named};
 use crate::job::{Plan, WordsFault};
 use crate::pair_jobs::{PairJob, left_file, right_file};
+use crate::profiled::SeenProfile;
+use crate::settings::configuration;
 use crate::shown::{are_printable, escaped_words, shown};
 use crate::values::{is_strict, text_of};
 use clap::error::ErrorKind;
 use clap::{ArgMatches, Error};
 use std::alloc::{AllocError, Global};
-use trace_log::Config;
 
 /// What is meant where there are no words.
 static NO_WORDS: [&str; 1] = ["normalise"];
 
-/// What the words ask for, those after the program's name.
-pub fn plan(alloc: Global, words: &[String]) -> Result<Plan, WordsFault>
-    // It is the plan of the command that the parser finds in the words, or says why there is none.
-    ensures words { IsPlanned (words_or_normalise (map string_bytes words.now)) result }
+/// What the words ask for, those after the program's name, with what is seen of the profile that they name.
+pub fn plan(alloc: Global, words: &[String], seen: &SeenProfile) -> Result<Plan, WordsFault>
+    // It is the plan of the command that the parser finds in the words, by what their profile asks for, or says why there is
+    // none.
+    ensures words { IsPlanned (words_or_normalise (map string_bytes words.now)) seen.now result }
 {
     match found(alloc, words) {
-        Ok(matches) => planned(alloc, &matches),
+        Ok(matches) => planned(alloc, &matches, seen),
         Err(error) => Err(refusal(alloc, words, &error)?),
     }
 }
@@ -99,25 +99,30 @@ fn text_of_error(alloc: Global, error: &Error) -> Result<String, AllocError>
 }
 
 /// The plan of the command that the parser found.
-fn planned(alloc: Global, matches: &ArgMatches<'_>) -> Result<Plan, WordsFault>
+fn planned(alloc: Global, matches: &ArgMatches<'_>, seen: &SeenProfile) -> Result<Plan, WordsFault>
     requires { IsSome (subcommand_rows_of matches.now) }
-    ensures from { IsPlannedFrom (subcommand_rows_of matches.now) result }
+    ensures from { IsPlannedFrom (subcommand_rows_of matches.now) seen.now result }
 {
     match matches.subcommand() {
         Some((name, found)) => match task_named(name, found) {
-            Task::One(job) => plan_of_one(alloc, job, found),
-            Task::Two(job) => plan_of_two(alloc, job, found),
+            Task::One(job) => plan_of_one(alloc, job, found, seen),
+            Task::Two(job) => plan_of_two(alloc, job, found, seen),
         },
         None => unreachable!(),
     }
 }
 
 /// The plan of a job over one log, by the options and the file of its command.
-fn plan_of_one(alloc: Global, job: Job, found: &ArgMatches<'_>) -> Result<Plan, WordsFault>
-    ensures plan { IfOk result (IsPlanOf (Task.One job) (rows_of (found_of found.now))) }
-    ensures fault { IfErr result (IsRefusedFor (Task.One job) (rows_of (found_of found.now))) }
+fn plan_of_one(
+    alloc: Global,
+    job: Job,
+    found: &ArgMatches<'_>,
+    seen: &SeenProfile,
+) -> Result<Plan, WordsFault>
+    ensures plan { IfOk result (IsPlanOf (Task.One job) (rows_of (found_of found.now)) seen.now) }
+    ensures fault { IfErr result (IsRefusedFor (Task.One job) (rows_of (found_of found.now)) seen.now) }
 {
-    let config = configuration(found)?;
+    let config = configuration(alloc, found, seen)?;
     let log = copied(alloc, text_of(found, LOG))?;
     Ok(Plan::One {
         job,
@@ -128,11 +133,16 @@ fn plan_of_one(alloc: Global, job: Job, found: &ArgMatches<'_>) -> Result<Plan, 
 }
 
 /// The plan of a job over two logs, by the options and the files of its command.
-fn plan_of_two(alloc: Global, job: PairJob, found: &ArgMatches<'_>) -> Result<Plan, WordsFault>
-    ensures plan { IfOk result (IsPlanOf (Task.Two job) (rows_of (found_of found.now))) }
-    ensures fault { IfErr result (IsRefusedFor (Task.Two job) (rows_of (found_of found.now))) }
+fn plan_of_two(
+    alloc: Global,
+    job: PairJob,
+    found: &ArgMatches<'_>,
+    seen: &SeenProfile,
+) -> Result<Plan, WordsFault>
+    ensures plan { IfOk result (IsPlanOf (Task.Two job) (rows_of (found_of found.now)) seen.now) }
+    ensures fault { IfErr result (IsRefusedFor (Task.Two job) (rows_of (found_of found.now)) seen.now) }
 {
-    let config = configuration(found)?;
+    let config = configuration(alloc, found, seen)?;
     let left = text_of(found, left_file(job));
     let right = text_of(found, right_file(job));
     let (Some(left), Some(right)) = (left, right) else {
@@ -148,26 +158,6 @@ fn plan_of_two(alloc: Global, job: PairJob, found: &ArgMatches<'_>) -> Result<Pl
         left,
         right,
     })
-}
-
-/// The configuration that the options ask for. A command that has no identifiers has the usual ones.
-fn configuration(found: &ArgMatches<'_>) -> Result<Config, WordsFault>
-    ensures { IsConfiguredIn (rows_of (found_of found.now)) result }
-{
-    let tester = text_of(found, TESTER).unwrap_or(USUAL_TESTER);
-    let unit = text_of(found, UNIT).unwrap_or(USUAL_UNIT);
-    let limit = found.get_one::<u64>(LIMIT).unwrap_or(0);
-    configured(tester, unit, limit)
-}
-
-/// The configuration of the identifiers that two texts spell.
-fn configured(tester: &str, unit: &str, limit: u64) -> Result<Config, WordsFault>
-    ensures { IsConfiguredBy (identifier_of tester.now) (identifier_of unit.now) limit result }
-{
-    let (Some(tester), Some(unit)) = (identifier(tester), identifier(unit)) else {
-        return Err(WordsFault::Identifier);
-    };
-    Config::new(tester, unit, limit).map_err(WordsFault::Config)
 }
 
 /// A text of its own, if there is one.

@@ -1,8 +1,7 @@
 -- Two logs have equal meaning exactly where their canonical logs, as they were put, are equal.
-use Rattle.std.proofs.Common.{◌≡◌, ◌⊎◌, ◌≤◌, ◌<◌, ◌^◌, ℕ, ◌+◌, Bool, true, false, List, length, drop, take, Result, Ok, Err, arith, refl, ap, sym, subst, ◌∙◌, inl, inr}
+use Rattle.std.proofs.Common.{◌≡◌, ◌⊎◌, ◌≤◌, ◌<◌, ◌^◌, ℕ, ◌+◌, Bool, true, false, List, [], length, drop, take, Result, Ok, Err, arith, refl, ap, sym, subst, ◌∙◌, inl, inr}
 use Rattle.std.specs.Prelude.{◌↔◌, nat_le, nat_lt, slice_get, if◌then◌else◌}
 use Rattle.std.proofs.lemmas.List.{take_at}
-use Rattle.can_log.specs.declared.frame.Id.{Id}
 use Rattle.isotp_receive.specs.declared.TheConstants.{MESSAGE_LIMIT}
 use Rattle.trace_canon.specs.Compared.{difference}
 use Rattle.trace_canon.specs.InMemory.{ComparesWithCounts, IsCanonicalLogWith, IsRefused, NeedsMemoryForCanonicalLog}
@@ -14,21 +13,22 @@ use Rattle.trace_log.specs.Laws.{HaveSameMeaning, IsMessageLimit, OutcomeIsOne}
 use Rattle.trace_log.specs.Messages.{HasMeaning}
 use Rattle.trace_log.specs.Outcome.{Accepted, IsOutcome}
 use Rattle.trace_log.specs.Refusal.{Refusal, bad_line, long_canonical_log, long_log, oversize_message}
-use Rattle.trace_log.specs.Settings.{AreSettings, Configures, Settings}
+use Rattle.trace_log.specs.Settings.{AreSettings, Settings}
 use Rattle.trace_log.specs.declared.fault.CompareFault.{CompareFault}
 use Rattle.trace_log.specs.declared.fault.CompareFault.TheVariants.{Left, Right}
-use Rattle.trace_log.specs.declared.fault.ConfigFault.{ConfigFault}
-use Rattle.trace_log.specs.declared.fault.ConfigFault.TheVariants.{IdRange, SameId, LimitRange}
 use Rattle.trace_log.specs.declared.fault.Fault.{Fault}
 use Rattle.trace_log.specs.declared.fault.Fault.TheVariants.{BadLine, Oversize, LogLimit, OutputLimit, Read, Write, Memory}
 use Rattle.trace_log.proofs.Promises.{one_meaning, same_meaning_same_text}
 use Rattle.uds_exchange.specs.Difference.{IsFirstDifference}
 use Rattle.uds_exchange.specs.Meaning.{ItemValue}
 use Rattle.udsnorm_c.specs.declared.answer.UdsnormAnswer.{UdsnormAnswer}
-use Rattle.udsnorm_c.specs.Answered.{NormaliseAnswers, TextAnswers, comparison_answer, fault_answer, first_item, number_of, refusal_of}
-use Rattle.udsnorm_c.specs.Laws.{CompareTellsEqualTexts, EqualMeaningsHaveEqualTexts, IsNormalisedTo, settings_of}
-use Rattle.udsnorm_c.specs.Spelled.{identifier_of, put_at_front}
-use Rattle.udsnorm_c.proofs.Unput.{never_put, of_fault, of_refusal, so_has}
+use Rattle.udsnorm_c.specs.Answered.{IsRefusalPut, NormaliseAnswers, TextAnswers, comparison_answer, fault_answer, first_item, number_of}
+use Rattle.udsnorm_c.specs.Given.{Configured, GivenValue}
+use Rattle.udsnorm_c.specs.Laws.{AsksForSome, CompareTellsEqualTexts, EqualMeaningsHaveEqualTexts, IsNormalisedTo}
+use Rattle.udsnorm_c.specs.Spelled.{put_at_front}
+use Rattle.udsnorm_c.specs.declared.given.NoConfig.{NoConfig}
+use Rattle.udsnorm_c.proofs.OneConfig.{are_given, config_is_one, config_or_memory}
+use Rattle.udsnorm_c.proofs.Unput.{never_put, of_fault, of_no_config, so_has}
 
 -- ---- the text that was put is the canonical log
 
@@ -60,16 +60,22 @@ text_under settings log old new answer are (Ok counted, outcome, (front, says)) 
     }
 text_under settings log old new answer are (Err fault, why, (same, says)) done = absurd (never_put answer (so_has answer _ says (of_fault fault)) (inl done))
 
-text_put : (tester unit max_bytes : ℕ) (log old new : List ℕ) (answer : UdsnormAnswer) → NormaliseAnswers MESSAGE_LIMIT tester unit max_bytes log old new answer → answer.status ≡ 0
-    → HasText (settings_of tester unit max_bytes) log (take answer.length new)
-text_put tester unit max_bytes log old new answer (Ok settings, (is, are), told) done =
-    subst (λ (s : Settings). HasText s log (take answer.length new)) is (text_under settings log old new answer are told done)
-text_put tester unit max_bytes log old new answer (Err fault, configures, (same, says)) done =
-    absurd (never_put answer (so_has answer (refusal_of fault) says (of_refusal fault)) (inl done))
+text_put : (given : GivenValue) (log old new : List ℕ) (answer : UdsnormAnswer) → NormaliseAnswers MESSAGE_LIMIT given log old new answer → answer.status ≡ 0
+    → AsksForSome given (λ settings. HasText settings log (take answer.length new))
+text_put given log old new answer (Ok settings, configured, told) done =
+    (settings, configured, text_under settings log old new answer (are_given given settings configured) told done)
+text_put given log old new answer (Err why, configured, put) done = absurd (never_put answer (of_no_config why old new answer put) (inl done))
 
-has_text : (tester unit max_bytes : ℕ) (log text : List ℕ) → IsNormalisedTo tester unit max_bytes log text → HasText (settings_of tester unit max_bytes) log text
-has_text tester unit max_bytes log text is =
-    subst (λ (t : List ℕ). HasText (settings_of tester unit max_bytes) log t) (sym is.put) (text_put tester unit max_bytes log is.old is.new is.answer is.answers is.done)
+has_text : (given : GivenValue) (log text : List ℕ) → IsNormalisedTo given log text → AsksForSome given (λ settings. HasText settings log text)
+has_text given log text is =
+    let put = text_put given log is.old is.new is.answer is.answers is.done in
+    (put.0, put.1, subst (λ (t : List ℕ). HasText put.0 log t) (sym is.put) put.2)
+
+-- the same under the settings that are asked for
+text_of : (given : GivenValue) (settings : Settings) (log text : List ℕ) → Configured given (Ok settings) → IsNormalisedTo given log text → HasText settings log text
+text_of given settings log text configured is =
+    let found = has_text given log text is in
+    subst (λ (s : Settings). HasText s log text) (config_is_one given found.0 settings found.1 configured) found.2
 
 -- so equal meanings have equal texts
 meaning_by_text : (settings : Settings) (left right one other : List ℕ) → HasText settings left one → HasText settings right other
@@ -80,8 +86,9 @@ meaning_by_text settings left right one other of_left of_right =
     (λ same. of_left.is ∙ law.0 same ∙ sym of_right.is, λ same. law.1 (sym of_left.is ∙ same ∙ of_right.is))
 
 pub equal_meanings_have_equal_texts : EqualMeaningsHaveEqualTexts
-equal_meanings_have_equal_texts tester unit max_bytes left right one other of_left of_right =
-    meaning_by_text (settings_of tester unit max_bytes) left right one other (has_text tester unit max_bytes left one of_left) (has_text tester unit max_bytes right other of_right)
+equal_meanings_have_equal_texts given left right one other of_left of_right =
+    let found = has_text given left one of_left in
+    (found.0, found.1, meaning_by_text found.0 left right one other found.2 (text_of given found.0 right other found.1 of_right))
 
 -- ---- and comparing tells it
 
@@ -95,17 +102,6 @@ item_of_same (Different place) one other differs = (
   λ zero. absurd (no_number (nat_lt place 0xFFFFFFFFFFFFFFFF) place zero),
   λ same. absurd (differs.1 (ap (λ (items : List ItemValue). slice_get items place) same)),
 )
-
--- there are settings with the parts of settings
-settings_are_there : (tester unit : Id) (max_bytes : ℕ) (fault : ConfigFault) → Configures tester unit max_bytes (Err fault)
-    → AreSettings (record { tester = tester; unit = unit; max_bytes = max_bytes }) → ⊥
-settings_are_there tester unit max_bytes IdRange (inl none) are = none are.tester
-settings_are_there tester unit max_bytes IdRange (inr none) are = none are.unit
-settings_are_there tester unit max_bytes SameId (of_tester, of_unit, same) are = are.apart same
-settings_are_there tester unit max_bytes LimitRange (of_tester, of_unit, apart, inl zero) are =
-    let least : 1 ≤ max_bytes = are.least in omega (arith, zero, least)
-settings_are_there tester unit max_bytes LimitRange (of_tester, of_unit, apart, inr above) are =
-    let most : max_bytes ≤ 2 ^ 40 = are.most in omega (arith, above, most)
 
 module _ (outcome_is_one : OutcomeIsOne) where
   not_refused : (settings : Settings) (log text : List ℕ) (refusal : Refusal) → HasText settings log text → IsOutcome MESSAGE_LIMIT settings log (Err refusal) → ⊥
@@ -134,12 +130,12 @@ module _ (outcome_is_one : OutcomeIsOne) where
         (
           λ zero. of_texts.0 (record {
             items = compared.left.meaning;
-            in_one = compares.0.means;
-            in_other = subst (HasMeaning MESSAGE_LIMIT settings right) (sym (of_items.0 (sym item ∙ zero))) compares.1.means;
+            in_one = compares.0.accepted.means;
+            in_other = subst (HasMeaning MESSAGE_LIMIT settings right) (sym (of_items.0 (sym item ∙ zero))) compares.1.accepted.means;
           }),
           λ same. item ∙ of_items.1 (let both = of_texts.1 same in
-              one_meaning MESSAGE_LIMIT settings left compared.left.meaning both.items compares.0.means both.in_one
-              ∙ one_meaning MESSAGE_LIMIT settings right both.items compared.right.meaning both.in_other compares.1.means),
+              one_meaning MESSAGE_LIMIT settings left compared.left.meaning both.items compares.0.accepted.means both.in_one
+              ∙ one_meaning MESSAGE_LIMIT settings right both.items compared.right.meaning both.in_other compares.1.accepted.means),
         ),
       )
   compare_under settings left right one other answer (Err (Left fault)) of_left of_right (why, memory) says =
@@ -148,9 +144,9 @@ module _ (outcome_is_one : OutcomeIsOne) where
       inl (ap (λ (a : UdsnormAnswer). a.status) says ∙ of_memory settings right other fault of_right why)
 
   pub compare_tells_equal_texts : CompareTellsEqualTexts
-  compare_tells_equal_texts tester unit max_bytes left right one other answer of_left of_right (Ok settings, (is, are), (result, compares, says)) =
-      compare_under settings left right one other answer result
-      (subst (λ (s : Settings). HasText s left one) (sym is) (has_text tester unit max_bytes left one of_left))
-      (subst (λ (s : Settings). HasText s right other) (sym is) (has_text tester unit max_bytes right other of_right)) compares says
-  compare_tells_equal_texts tester unit max_bytes left right one other answer of_left of_right (Err fault, configures, says) =
-      absurd (settings_are_there (identifier_of tester) (identifier_of unit) max_bytes fault configures (has_text tester unit max_bytes left one of_left).are)
+  compare_tells_equal_texts given left right one other old new answer of_left of_right (Ok settings, configured, (same, (result, compares, says))) =
+      compare_under settings left right one other answer result (text_of given settings left one configured of_left) (text_of given settings right other configured of_right) compares says
+  compare_tells_equal_texts given left right one other old new answer of_left of_right (Err why, configured, put) =
+      let found = has_text given left one of_left in
+      let memory = subst (λ (w : NoConfig). IsRefusalPut w old new answer) (config_or_memory given found.0 why found.1 configured) put in
+      inl (ap (λ (a : UdsnormAnswer). a.status) memory.1)

@@ -5,3 +5,5 @@ pub mod PairsTold
 pub mod EqualTexts
 pub mod EmptyTexts
 pub mod Words
+pub mod OneConfig
+pub mod PlainTraces

@@ -22,11 +22,13 @@ use Rattle.trace_pair.specs.Laws.{AgreesWithCompare}
 use Rattle.trace_text.specs.declared.notation.Notation.{Notation}
 use Rattle.uds_exchange.specs.Meaning.{ItemValue}
 use Rattle.udsnorm_c.specs.declared.answer.UdsnormAnswer.{UdsnormAnswer}
-use Rattle.udsnorm_c.specs.Answered.{CompareAnswers, DiffAnswers, DifferencePuts, PairPagePuts, ReportPairAnswers, Styled, comparison_answer, first_item, flag, refusal_of, status_alone}
-use Rattle.udsnorm_c.specs.Laws.{CleanCompareIsRecorded, CleanDiffIsRecorded, CleanReportPairIsRecorded, DiffAgreesWithCompare, IsRecorded, PairPageAgreesWithCompare, settings_of}
+use Rattle.udsnorm_c.specs.Answered.{CompareAnswers, DiffAnswers, DifferencePuts, PairPagePuts, ReportPairAnswers, Styled, comparison_answer, first_item, flag, status_alone}
+use Rattle.udsnorm_c.specs.Given.{Configured, GivenValue}
+use Rattle.udsnorm_c.specs.Laws.{AsksForSome, CleanCompareIsRecorded, CleanDiffIsRecorded, CleanReportPairIsRecorded, DiffAgreesWithCompare, IsRecorded, PairPageAgreesWithCompare}
 use Rattle.udsnorm_c.specs.Spelled.{notation_of}
+use Rattle.udsnorm_c.proofs.OneConfig.{config_is_one}
 use Rattle.udsnorm_c.proofs.Recorded.{AreCountsOf, flag_set, of_accepted, one_count, recorded}
-use Rattle.udsnorm_c.proofs.Unput.{has_no_text, never_clean, never_put, of_no_page, of_refusal, of_side, so_has}
+use Rattle.udsnorm_c.proofs.Unput.{has_no_text, never_clean, never_put, of_no_config, of_no_page, of_side, so_has}
 
 -- The answer says how two logs compare, whether both are clean, and whether the sides of one look exchanged.
 record SaysOfTwo (settings : Settings) (left right : List ℕ) (comparison : Comparison) (answer : UdsnormAnswer) : Type 0 where
@@ -58,8 +60,8 @@ compared_under settings left right answer (Ok counted) (compared, compares, coun
       record {
         one = counted.left;
         other = counted.right;
-        of_left = subst (λ (c : CountedComparison). AreCountsOf settings left c.left) (sym counts) (of_accepted settings left compared.left.meaning compared.left.summary compares.0);
-        of_right = subst (λ (c : CountedComparison). AreCountsOf settings right c.right) (sym counts) (of_accepted settings right compared.right.meaning compared.right.summary compares.1);
+        of_left = subst (λ (c : CountedComparison). AreCountsOf settings left c.left) (sym counts) (of_accepted settings left compared.left.meaning compared.left.summary compares.0.accepted);
+        of_right = subst (λ (c : CountedComparison). AreCountsOf settings right c.right) (sym counts) (of_accepted settings right compared.right.meaning compared.right.summary compares.1.accepted);
         item = ap (λ (a : UdsnormAnswer). a.item) says ∙ ap (λ (c : CountedComparison). first_item c.comparison) counts;
         clean = ap (λ (a : UdsnormAnswer). a.clean) says;
         exchanged = ap (λ (a : UdsnormAnswer). a.exchanged) says;
@@ -67,11 +69,20 @@ compared_under settings left right answer (Ok counted) (compared, compares, coun
     )
 compared_under settings left right answer (Err fault) why says = inl (so_has answer _ says (of_side fault))
 
-compared_told : (tester unit max_bytes : ℕ) (left right : List ℕ) (answer : UdsnormAnswer) → CompareAnswers MESSAGE_LIMIT tester unit max_bytes left right answer
-    → (has_no_text answer ≡ true) ⊎ ComparedSo (settings_of tester unit max_bytes) left right answer
-compared_told tester unit max_bytes left right answer (Ok settings, (is, are), (result, compares, says)) =
-    subst (λ (s : Settings). (has_no_text answer ≡ true) ⊎ ComparedSo s left right answer) is (compared_under settings left right answer result compares says)
-compared_told tester unit max_bytes left right answer (Err fault, configures, says) = inl (so_has answer (refusal_of fault) says (of_refusal fault))
+-- an answer has no text, or this holds of the settings that are asked for
+abbrev Says : GivenValue → UdsnormAnswer → (Settings → Type 0) → Type 0
+Says given answer Holds = (has_no_text answer ≡ true) ⊎ AsksForSome given Holds
+
+says_under : (given : GivenValue) (settings : Settings) (answer : UdsnormAnswer) (Holds : Settings → Type 0) → Configured given (Ok settings)
+    → (has_no_text answer ≡ true) ⊎ Holds settings → Says given answer Holds
+says_under given settings answer Holds configured (inl none) = inl none
+says_under given settings answer Holds configured (inr holds) = inr (settings, configured, holds)
+
+compared_told : (given : GivenValue) (left right old new : List ℕ) (answer : UdsnormAnswer) → CompareAnswers MESSAGE_LIMIT given left right old new answer
+    → Says given answer (λ settings. ComparedSo settings left right answer)
+compared_told given left right old new answer (Ok settings, configured, (same, (result, compares, says))) =
+    says_under given settings answer (λ settings. ComparedSo settings left right answer) configured (compared_under settings left right answer result compares says)
+compared_told given left right old new answer (Err why, configured, put) = inl (of_no_config why old new answer put)
 
 -- what is said where it is asked in some notation where two logs differ, if there is such a style
 difference_under : (settings : Settings) (left_name right_name left right old new : List ℕ) (answer : UdsnormAnswer) (found : Option Notation)
@@ -85,8 +96,8 @@ difference_under settings left_name right_name left right old new answer (Some n
       record {
         one = told.counted.left;
         other = told.counted.right;
-        of_left = subst (λ (c : CountedComparison). AreCountsOf settings left c.left) (sym counts) (of_accepted settings left compared.left.meaning compared.left.summary compares.0);
-        of_right = subst (λ (c : CountedComparison). AreCountsOf settings right c.right) (sym counts) (of_accepted settings right compared.right.meaning compared.right.summary compares.1);
+        of_left = subst (λ (c : CountedComparison). AreCountsOf settings left c.left) (sym counts) (of_accepted settings left compared.left.meaning compared.left.summary compares.0.accepted);
+        of_right = subst (λ (c : CountedComparison). AreCountsOf settings right c.right) (sym counts) (of_accepted settings right compared.right.meaning compared.right.summary compares.1.accepted);
         item = ap (λ (a : UdsnormAnswer). a.item) says ∙ ap (λ (c : CountedComparison). first_item c.comparison) counts;
         clean = ap (λ (a : UdsnormAnswer). a.clean) says;
         exchanged = ap (λ (a : UdsnormAnswer). a.exchanged) says;
@@ -94,14 +105,13 @@ difference_under settings left_name right_name left right old new answer (Some n
     )
 difference_under settings left_name right_name left right old new answer (Some notation) (Err fault, none, (same, says)) = inl (so_has answer _ says (of_side fault))
 
-difference_told : (tester unit max_bytes style : ℕ) (left_name right_name left right old new : List ℕ) (answer : UdsnormAnswer)
-    → DiffAnswers MESSAGE_LIMIT tester unit max_bytes style left_name right_name left right old new answer
-    → (has_no_text answer ≡ true) ⊎ ComparedSo (settings_of tester unit max_bytes) left right answer
-difference_told tester unit max_bytes style left_name right_name left right old new answer (Ok settings, (is, are), puts) =
-    subst (λ (s : Settings). (has_no_text answer ≡ true) ⊎ ComparedSo s left right answer) is
+difference_told : (given : GivenValue) (style : ℕ) (left_name right_name left right old new : List ℕ) (answer : UdsnormAnswer)
+    → DiffAnswers MESSAGE_LIMIT given style left_name right_name left right old new answer
+    → Says given answer (λ settings. ComparedSo settings left right answer)
+difference_told given style left_name right_name left right old new answer (Ok settings, configured, puts) =
+    says_under given settings answer (λ settings. ComparedSo settings left right answer) configured
     (difference_under settings left_name right_name left right old new answer (notation_of style) puts)
-difference_told tester unit max_bytes style left_name right_name left right old new answer (Err fault, configures, (same, says)) =
-    inl (so_has answer (refusal_of fault) says (of_refusal fault))
+difference_told given style left_name right_name left right old new answer (Err why, configured, put) = inl (of_no_config why old new answer put)
 
 of_held : (settings : Settings) (log : List ℕ) (session : SessionValue) → KeepsOne MESSAGE_LIMIT settings log (Ok session) → AreCountsOf settings log session.summary
 of_held settings log session (meanings, read, is) = (meanings, read.1, ap (λ (s : SessionValue). s.summary) is)
@@ -125,13 +135,12 @@ held_under settings left_name right_name left right old new answer (style, Ok pa
     )
 held_under settings left_name right_name left right old new answer (style, Err why, none, (same, says)) = inl (so_has answer _ says (of_no_page why))
 
-held_told : (tester unit max_bytes : ℕ) (left_name right_name left right old new : List ℕ) (answer : UdsnormAnswer)
-    → ReportPairAnswers MESSAGE_LIMIT tester unit max_bytes left_name right_name left right old new answer
-    → (has_no_text answer ≡ true) ⊎ HeldSo (settings_of tester unit max_bytes) left right answer
-held_told tester unit max_bytes left_name right_name left right old new answer (Ok settings, (is, are), puts) =
-    subst (λ (s : Settings). (has_no_text answer ≡ true) ⊎ HeldSo s left right answer) is (held_under settings left_name right_name left right old new answer puts)
-held_told tester unit max_bytes left_name right_name left right old new answer (Err fault, configures, (same, says)) =
-    inl (so_has answer (refusal_of fault) says (of_refusal fault))
+held_told : (given : GivenValue) (left_name right_name left right old new : List ℕ) (answer : UdsnormAnswer)
+    → ReportPairAnswers MESSAGE_LIMIT given left_name right_name left right old new answer
+    → Says given answer (λ settings. HeldSo settings left right answer)
+held_told given left_name right_name left right old new answer (Ok settings, configured, puts) =
+    says_under given settings answer (λ settings. HeldSo settings left right answer) configured (held_under settings left_name right_name left right old new answer puts)
+held_told given left_name right_name left right old new answer (Err why, configured, put) = inl (of_no_config why old new answer put)
 
 -- ---- both are clean
 
@@ -142,24 +151,24 @@ both_recorded has_both_sides settings left right comparison answer says clean =
     (recorded has_both_sides settings left says.one says.of_left both.0, recorded has_both_sides settings right says.other says.of_right both.1)
 
 pub clean_compare : CleanLogHasBothSides → CleanCompareIsRecorded
-clean_compare has_both_sides tester unit max_bytes left right answer answers clean =
-    elim (compared_told tester unit max_bytes left right answer answers) [
+clean_compare has_both_sides given left right old new answer answers clean =
+    elim (compared_told given left right old new answer answers) [
       | inl none ↦ absurd (never_clean answer none clean)
-      | inr said ↦ both_recorded has_both_sides (settings_of tester unit max_bytes) left right said.0.comparison answer said.2 clean
+      | inr (settings, configured, said) ↦ (settings, configured, both_recorded has_both_sides settings left right said.0.comparison answer said.2 clean)
     ]
 
 pub clean_diff : CleanLogHasBothSides → CleanDiffIsRecorded
-clean_diff has_both_sides tester unit max_bytes style left_name right_name left right old new answer answers clean =
-    elim (difference_told tester unit max_bytes style left_name right_name left right old new answer answers) [
+clean_diff has_both_sides given style left_name right_name left right old new answer answers clean =
+    elim (difference_told given style left_name right_name left right old new answer answers) [
       | inl none ↦ absurd (never_clean answer none clean)
-      | inr said ↦ both_recorded has_both_sides (settings_of tester unit max_bytes) left right said.0.comparison answer said.2 clean
+      | inr (settings, configured, said) ↦ (settings, configured, both_recorded has_both_sides settings left right said.0.comparison answer said.2 clean)
     ]
 
 pub clean_report_pair : CleanLogHasBothSides → CleanReportPairIsRecorded
-clean_report_pair has_both_sides tester unit max_bytes left_name right_name left right old new answer answers clean =
-    elim (held_told tester unit max_bytes left_name right_name left right old new answer answers) [
+clean_report_pair has_both_sides given left_name right_name left right old new answer answers clean =
+    elim (held_told given left_name right_name left right old new answer answers) [
       | inl none ↦ absurd (never_clean answer none clean)
-      | inr said ↦ both_recorded has_both_sides (settings_of tester unit max_bytes) left right (comparison_in said.0) answer said.2 clean
+      | inr (settings, configured, said) ↦ (settings, configured, both_recorded has_both_sides settings left right (comparison_in said.0) answer said.2 clean)
     ]
 
 -- ---- a page says what comparing does
@@ -177,15 +186,21 @@ say_the_same settings left right one other page compared same of_page of_compare
           ∙ ap (λ (s : Summary). flag (of_compared.one.looks_exchanged || s.looks_exchanged)) of_right ∙ sym of_compared.exchanged,
     )
 
+-- what comparing says, of the settings that another call was answered by
+compared_by : (given : GivenValue) (settings : Settings) (left right : List ℕ) (answer : UdsnormAnswer) → Configured given (Ok settings)
+    → AsksForSome given (λ settings. ComparedSo settings left right answer) → ComparedSo settings left right answer
+compared_by given settings left right answer configured (again, too, said) =
+    subst (λ (s : Settings). ComparedSo s left right answer) (config_is_one given again settings too configured) said
+
 pub pair_page_agrees : AgreesWithCompare → PairPageAgreesWithCompare
-pair_page_agrees agrees tester unit max_bytes left_name right_name left right old new page compared puts put answers done =
-    let settings = settings_of tester unit max_bytes in
-    elim (held_told tester unit max_bytes left_name right_name left right old new page puts) [
+pair_page_agrees agrees given left_name right_name left right old new before after page compared puts put answers done =
+    elim (held_told given left_name right_name left right old new page puts) [
       | inl none ↦ absurd (never_put page none put)
-      | inr held ↦ elim (compared_told tester unit max_bytes left right compared answers) [
+      | inr (settings, configured, held) ↦ elim (compared_told given left right before after compared answers) [
         | inl none ↦ absurd (never_put compared none (inl done))
-        | inr found ↦ say_the_same settings left right (comparison_in held.0) found.0.comparison page compared
-            (agrees settings left right held.0 found.0 held.1 found.1) held.2 found.2
+        | inr too ↦
+            let found = compared_by given settings left right compared configured too in
+            say_the_same settings left right (comparison_in held.0) found.0.comparison page compared (agrees settings left right held.0 found.0 held.1 found.1) held.2 found.2
       ]
     ]
 
@@ -196,25 +211,25 @@ held_log : (settings : Settings) (log : List ℕ) (items : List ItemValue) (summ
     → (session : SessionValue) × KeepsOne MESSAGE_LIMIT settings log (Ok session)
 held_log settings log items summary is =
     let meanings = is.outcome.0 in
-    (session_of MESSAGE_LIMIT (trace settings meanings) (summary_of MESSAGE_LIMIT settings log meanings), (meanings, (is.outcome.1.short, is.outcome.1.means), refl))
+    (session_of MESSAGE_LIMIT settings.rules (trace settings meanings) (summary_of MESSAGE_LIMIT settings log meanings), (meanings, (is.outcome.1.short, is.outcome.1.means), refl))
 
 -- two logs compare in one way, which is that of what is held of them
 one_comparison : AgreesWithCompare → (settings : Settings) (left right : List ℕ) (one other : Compared) → Compares MESSAGE_LIMIT settings left right (Ok one)
     → Compares MESSAGE_LIMIT settings left right (Ok other) → one.comparison ≡ other.comparison
 one_comparison agrees settings left right one other is too =
-    let of_left = held_log settings left one.left.meaning one.left.summary is.0 in
-    let of_right = held_log settings right one.right.meaning one.right.summary is.1 in
+    let of_left = held_log settings left one.left.meaning one.left.summary is.0.accepted in
+    let of_right = held_log settings right one.right.meaning one.right.summary is.1.accepted in
     let held : KeptSessionsValue = record { left = of_left.0; right = of_right.0 } in
     sym (agrees settings left right held one (of_left.1, of_right.1) is) ∙ agrees settings left right held other (of_left.1, of_right.1) too
 
 pub diff_agrees : AgreesWithCompare → DiffAgreesWithCompare
-diff_agrees agrees tester unit max_bytes style left_name right_name left right old new told compared puts put answers done =
-    let settings = settings_of tester unit max_bytes in
-    elim (difference_told tester unit max_bytes style left_name right_name left right old new told puts) [
+diff_agrees agrees given style left_name right_name left right old new before after told compared puts put answers done =
+    elim (difference_told given style left_name right_name left right old new told puts) [
       | inl none ↦ absurd (never_put told none put)
-      | inr said ↦ elim (compared_told tester unit max_bytes left right compared answers) [
+      | inr (settings, configured, said) ↦ elim (compared_told given left right before after compared answers) [
         | inl none ↦ absurd (never_put compared none (inl done))
-        | inr found ↦ say_the_same settings left right said.0.comparison found.0.comparison told compared
-            (one_comparison agrees settings left right said.0 found.0 said.1 found.1) said.2 found.2
+        | inr too ↦
+            let found = compared_by given settings left right compared configured too in
+            say_the_same settings left right said.0.comparison found.0.comparison told compared (one_comparison agrees settings left right said.0 found.0 said.1 found.1) said.2 found.2
       ]
     ]

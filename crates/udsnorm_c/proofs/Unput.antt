@@ -1,5 +1,5 @@
 -- Answers of no text: their status says so, and they call no log clean.
-use Rattle.std.proofs.Common.{◌≡◌, ◌⊎◌, Bool, true, arith, refl, sym, subst, inl, inr}
+use Rattle.std.proofs.Common.{◌≡◌, ◌⊎◌, ℕ, List, Bool, true, arith, refl, sym, subst, inl, inr}
 use Rattle.std.specs.Prelude.{◌==◌, ◌&&◌, not}
 use Rattle.std.proofs.lemmas.Bool.{and_parts, eqb-false, eqb-true, not-true}
 use Rattle.trace_log.specs.declared.fault.CompareFault.{CompareFault}
@@ -11,7 +11,9 @@ use Rattle.trace_log.specs.declared.fault.Fault.TheVariants.{BadLine, Oversize, 
 use Rattle.trace_pair.specs.declared.in_memory.NoPairPage.{NoPairPage}
 use Rattle.trace_pair.specs.declared.in_memory.NoPairPage.TheVariants.{OfLog, OfMemory}
 use Rattle.udsnorm_c.specs.declared.answer.UdsnormAnswer.{UdsnormAnswer}
-use Rattle.udsnorm_c.specs.Answered.{fault_answer, no_pair_answer, refusal_of, side_answer}
+use Rattle.udsnorm_c.specs.Answered.{IsRefusalPut, fault_answer, no_pair_answer, refusal_of, side_answer}
+use Rattle.udsnorm_c.specs.declared.given.NoConfig.{NoConfig}
+use Rattle.udsnorm_c.specs.declared.given.NoConfig.TheVariants as no
 
 -- no log is clean, and neither was a text put nor was there too little room for it
 abbrev pub has_no_text : UdsnormAnswer → Bool
@@ -21,6 +23,12 @@ pub of_refusal : (fault : ConfigFault) → has_no_text (refusal_of fault) ≡ tr
 of_refusal IdRange = refl
 of_refusal SameId = refl
 of_refusal LimitRange = refl
+
+-- nor has one where there is no configuration
+pub of_no_config : (why : NoConfig) (old new : List ℕ) (answer : UdsnormAnswer) → IsRefusalPut why old new answer → has_no_text answer ≡ true
+of_no_config (no.Config fault) old new answer (same, says) = subst (λ (a : UdsnormAnswer). has_no_text a ≡ true) (sym says) (of_refusal fault)
+of_no_config no.Memory old new answer (same, says) = subst (λ (a : UdsnormAnswer). has_no_text a ≡ true) (sym says) refl
+of_no_config (no.Profile told) old new answer (put, says) = subst (λ (a : UdsnormAnswer). has_no_text a ≡ true) (sym says) refl
 
 pub of_fault : (fault : Fault) → has_no_text (fault_answer fault) ≡ true
 of_fault (BadLine line column) = refl

@@ -17,7 +17,7 @@ pub words_end : (status : ℕ) → slice_index_or (words_for_c status) 47 1 ≡ 
 words_end status =
     either (status == 0) _ _ refl (either (status == 1) _ _ refl (either (status == 2) _ _ refl (either (status == 3) _ _ refl
     (either (status == 4) _ _ refl (either (status == 5) _ _ refl (either (status == 6) _ _ refl (either (status == 7) _ _ refl
-    (either (status == 8) _ _ refl (either (status == 9) _ _ refl (either (status == 10) _ _ refl refl))))))))))
+    (either (status == 8) _ _ refl (either (status == 9) _ _ refl (either (status == 10) _ _ refl (either (status == 11) _ _ refl refl)))))))))))
 
 -- ---- each status has words of its own
 
@@ -25,7 +25,7 @@ words_end status =
 abbrev sign : List ℕ → ℕ
 sign words = slice_index_or words 0 0 + slice_index_or words 12 0
 
--- the status whose words have this sign, and 11 where none has
+-- the status whose words have this sign, and 12 where none has
 abbrev status_by : ℕ → ℕ
 status_by sum =
     if sum == 100 then 0
@@ -39,11 +39,12 @@ status_by sum =
     else if sum == 232 then 8
     else if sum == 221 then 9
     else if sum == 211 then 10
-    else 11
+    else if sum == 147 then 11
+    else 12
 
 -- these words tell this status
 abbrev Tells : List ℕ → ℕ → Type 0
-Tells words status = status_by (sign (put_at_front words (replicate 48 0))) ≡ min status 11
+Tells words status = status_by (sign (put_at_front words (replicate 48 0))) ≡ min status 12
 
 step : (words rest : List ℕ) (status known : ℕ) → known ≤ status → Tells words known → (suc known ≤ status → Tells rest status)
     → Tells (if status == known then words else rest) status
@@ -55,21 +56,21 @@ step words rest status known low tells later =
       | inr most ↦ absurd (apart (omega (arith, low, most)))
     ]))
 
-unknown_is_eleven : (status : ℕ) → 11 ≤ status → 11 ≡ min status 11
-unknown_is_eleven status high = omega (arith, high)
+unknown_is_twelve : (status : ℕ) → 12 ≤ status → 12 ≡ min status 12
+unknown_is_twelve status high = omega (arith, high)
 
 told : (status : ℕ) → Tells (status_words status) status
 told status =
     step _ _ status 0 (omega arith) refl (λ above_0. step _ _ status 1 above_0 refl (λ above_1. step _ _ status 2 above_1 refl
     (λ above_2. step _ _ status 3 above_2 refl (λ above_3. step _ _ status 4 above_3 refl (λ above_4. step _ _ status 5 above_4 refl
     (λ above_5. step _ _ status 6 above_5 refl (λ above_6. step _ _ status 7 above_6 refl (λ above_7. step _ _ status 8 above_7 refl
-    (λ above_8. step _ _ status 9 above_8 refl (λ above_9. step _ _ status 10 above_9 refl (unknown_is_eleven status)))))))))))
+    (λ above_8. step _ _ status 9 above_8 refl (λ above_9. step _ _ status 10 above_9 refl (λ above_10. step _ _ status 11 above_10 refl (unknown_is_twelve status))))))))))))
 
 -- a number that is no status has the words of none
 past : (status known : ℕ) → known < status → (status == known) ≡ false
 past status known low = ne_eqb status known (λ is. omega (arith, low, is))
 
-unknown : (status : ℕ) → 10 < status → status_words status ≡ codes "no such status"
+unknown : (status : ℕ) → 11 < status → status_words status ≡ codes "no such status"
 unknown status high =
     rw (
       past status 0 (omega (arith, high)),
@@ -82,11 +83,12 @@ unknown status high =
       past status 7 (omega (arith, high)),
       past status 8 (omega (arith, high)),
       past status 9 (omega (arith, high)),
-      past status 10 high,
+      past status 10 (omega (arith, high)),
+      past status 11 high,
     ) refl
 
-apart : (one other : ℕ) → min one 11 ≡ min other 11 → (one ≡ other) ⊎ ((10 < one) × (10 < other))
-apart one other same = elim (cases_lt one 11) [
+apart : (one other : ℕ) → min one 12 ≡ min other 12 → (one ≡ other) ⊎ ((11 < one) × (11 < other))
+apart one other same = elim (cases_lt one 12) [
   | inl low ↦ inl (omega (arith, low, same))
   | inr high ↦ inr (omega (arith, high), omega (arith, high, same))
 ]

@@ -14,7 +14,7 @@ use Rattle.trace_log.specs.declared.summary.Summary.{Summary}
 use Rattle.trace_canon.specs.InMemory.{IsCanonicalLogWith, IsListWith, AreMessageLinesWith, IsExplanationWith, AreCreditLinesWith, IsRefused, IsUnread, NeedsMemoryForCanonicalLog, NeedsMemoryForList, NeedsMemoryForMessageLines, NeedsMemoryForExplanation, NeedsMemoryForCreditLines, ComparesWithCounts}
 use Rattle.trace_difference.specs.InMemory.{HasNoDifferenceText, IsDifferenceWith}
 use Rattle.trace_difference.specs.declared.in_memory.CountedDifference.{CountedDifference}
-use Rattle.trace_log.specs.Settings.{Settings, Configures}
+use Rattle.trace_log.specs.Settings.{Settings}
 use Rattle.trace_log.specs.Summing.{is_clean}
 use Rattle.trace_report.specs.Front.{page_title}
 use Rattle.trace_report.specs.InMemory.{IsPageWith, NeedsMemoryForPage}
@@ -25,7 +25,10 @@ use Rattle.trace_pair.specs.declared.in_memory.NoPairPage.{NoPairPage}
 use Rattle.trace_pair.specs.declared.in_memory.NoPairPage.TheVariants.{OfLog, OfMemory}
 use Rattle.trace_text.specs.declared.notation.Notation.{Notation}
 use Rattle.udsnorm_c.specs.declared.answer.UdsnormAnswer.{UdsnormAnswer}
-use Rattle.udsnorm_c.specs.Spelled.{identifier_of, list_style, notation_of, put_at_front}
+use Rattle.udsnorm_c.specs.Given.{Configured, GivenValue, usual_given}
+use Rattle.udsnorm_c.specs.Spelled.{list_style, notation_of, put_at_front}
+use Rattle.udsnorm_c.specs.declared.given.NoConfig.{NoConfig}
+use Rattle.udsnorm_c.specs.declared.given.NoConfig.TheVariants as no
 
 -- an answer that tells its status alone
 abbrev pub status_alone : ℕ → UdsnormAnswer
@@ -46,6 +49,7 @@ status_alone status = record {
   ended = 0;
   unfinished = 0;
   pending = 0;
+  left_out = 0;
 }
 
 -- the answer where there are no such settings
@@ -53,6 +57,10 @@ abbrev pub refusal_of : ConfigFault → UdsnormAnswer
 refusal_of IdRange = status_alone 1
 refusal_of SameId = status_alone 2
 refusal_of LimitRange = status_alone 3
+
+-- the answer where something is wrong in a profile, at this line of it, or at 0, of which a text of this length tells
+abbrev pub profile_answer : ℕ → ℕ → UdsnormAnswer
+profile_answer at count = record (status_alone 11) { line = at; length = count }
 
 -- the answer of a log that is refused, or for which memory was
 abbrev pub fault_answer : Fault → UdsnormAnswer
@@ -91,6 +99,7 @@ text_answer count summary room = record {
   ended = summary.ended;
   unfinished = summary.unfinished;
   pending = summary.pending;
+  left_out = summary.left_out;
 }
 
 -- the number of an item, from 1, where they are counted from 0; no log has more than the largest number
@@ -154,19 +163,23 @@ abbrev pub TextAnswers : (List ℕ → Summary → Type 0) → (Fault → Type 0
 TextAnswers IsText IsFault old new answer =
     (told : Result CountedText Fault) × MatchResult told (λ counted. IsText counted.text.items counted.summary) IsFault × IsPut told old new answer
 
--- There are settings of these numbers, and with them this holds; or there are none, and that holds of why.
-abbrev pub UnderSettings : ℕ → ℕ → ℕ → (Settings → Type 0) → (ConfigFault → Type 0) → Type 0
-UnderSettings tester unit max_bytes Holds Fails =
-    (settings : Result Settings ConfigFault) × Configures (identifier_of tester) (identifier_of unit) max_bytes settings × MatchResult settings Holds Fails
+-- Why there are no settings is answered. What is wrong in a profile is put at the front of the buffer, where it has room; else
+-- that is as it was.
+abbrev pub IsRefusalPut : NoConfig → List ℕ → List ℕ → UdsnormAnswer → Type 0
+IsRefusalPut (no.Config fault) old new answer = (new ≡ old) × (answer ≡ refusal_of fault)
+IsRefusalPut no.Memory old new answer = (new ≡ old) × (answer ≡ status_alone 8)
+IsRefusalPut (no.Profile told) old new answer = (new ≡ put_at_front told.text.items old) × (answer ≡ profile_answer told.line (length told.text.items))
 
--- why there are no settings is answered, and the buffer is as it was
-abbrev pub AnswersRefusal : List ℕ → List ℕ → UdsnormAnswer → ConfigFault → Type 0
-AnswersRefusal old new answer fault = (new ≡ old) × (answer ≡ refusal_of fault)
+-- There are settings of what a call is handed, and with them this holds; or there are none, which is answered: what is wrong
+-- in a profile is put, and else the buffer is as it was.
+abbrev pub UnderSettings : GivenValue → (Settings → Type 0) → List ℕ → List ℕ → UdsnormAnswer → Type 0
+UnderSettings given Holds old new answer =
+    (settings : Result Settings NoConfig) × Configured given settings × MatchResult settings Holds (λ why. IsRefusalPut why old new answer)
 
 -- the canonical log of an accepted log, or why it is refused
-abbrev pub NormaliseAnswers : ℕ → ℕ → ℕ → ℕ → List ℕ → List ℕ → List ℕ → UdsnormAnswer → Type 0
-NormaliseAnswers limit tester unit max_bytes log old new answer = UnderSettings tester unit max_bytes
-    (λ settings. TextAnswers (IsCanonicalLogWith limit settings log) (IsRefused NeedsMemoryForCanonicalLog limit settings log) old new answer) (AnswersRefusal old new answer)
+abbrev pub NormaliseAnswers : ℕ → GivenValue → List ℕ → List ℕ → List ℕ → UdsnormAnswer → Type 0
+NormaliseAnswers limit given log old new answer =
+    UnderSettings given (λ settings. TextAnswers (IsCanonicalLogWith limit settings log) (IsRefused NeedsMemoryForCanonicalLog limit settings log) old new answer) old new answer
 
 -- there is such a style, and this holds of it; or there is none, which is answered, and the buffer is as it was
 abbrev pub Styled : {A : Type 0} → Option A → (A → Type 0) → List ℕ → List ℕ → UdsnormAnswer → Type 0
@@ -174,34 +187,34 @@ Styled None Holds old new answer = (new ≡ old) × (answer ≡ status_alone 10)
 Styled (Some style) Holds old new answer = Holds style
 
 -- the list of an accepted log, or why it is refused
-abbrev pub ListAnswers : ℕ → ℕ → ℕ → ℕ → ℕ → List ℕ → List ℕ → List ℕ → UdsnormAnswer → Type 0
-ListAnswers limit tester unit max_bytes style log old new answer = UnderSettings tester unit max_bytes
+abbrev pub ListAnswers : ℕ → GivenValue → ℕ → List ℕ → List ℕ → List ℕ → UdsnormAnswer → Type 0
+ListAnswers limit given style log old new answer = UnderSettings given
     (λ settings. Styled (list_style style) (λ style. TextAnswers (IsListWith style limit settings log) (IsRefused (NeedsMemoryForList style) limit settings log) old new answer) old new answer)
-    (AnswersRefusal old new answer)
+    old new answer
 
 -- the messages of a log that can be read with their places, or why it can't be
-abbrev pub MessagesAnswers : ℕ → ℕ → ℕ → ℕ → ℕ → List ℕ → List ℕ → List ℕ → UdsnormAnswer → Type 0
-MessagesAnswers limit tester unit max_bytes style log old new answer = UnderSettings tester unit max_bytes
+abbrev pub MessagesAnswers : ℕ → GivenValue → ℕ → List ℕ → List ℕ → List ℕ → UdsnormAnswer → Type 0
+MessagesAnswers limit given style log old new answer = UnderSettings given
     (λ settings. Styled (notation_of style) (λ notation. TextAnswers (AreMessageLinesWith notation limit settings log) (IsUnread (NeedsMemoryForMessageLines notation) limit settings log) old new answer) old new answer)
-    (AnswersRefusal old new answer)
+    old new answer
 
 -- what explains a log that can be read, or why it can't be
-abbrev pub ExplainAnswers : ℕ → ℕ → ℕ → ℕ → ℕ → List ℕ → List ℕ → List ℕ → UdsnormAnswer → Type 0
-ExplainAnswers limit tester unit max_bytes style log old new answer = UnderSettings tester unit max_bytes
+abbrev pub ExplainAnswers : ℕ → GivenValue → ℕ → List ℕ → List ℕ → List ℕ → UdsnormAnswer → Type 0
+ExplainAnswers limit given style log old new answer = UnderSettings given
     (λ settings. Styled (notation_of style) (λ notation. TextAnswers (IsExplanationWith notation limit settings log) (IsUnread NeedsMemoryForExplanation limit settings log) old new answer) old new answer)
-    (AnswersRefusal old new answer)
+    old new answer
 
 -- the pairs of a log that can be read, or why it can't be; no identifier is asked for
 abbrev pub FindAnswers : ℕ → ℕ → ℕ → List ℕ → List ℕ → List ℕ → UdsnormAnswer → Type 0
-FindAnswers limit max_bytes style log old new answer = UnderSettings 0x7E0 0x7E8 max_bytes
+FindAnswers limit max_bytes style log old new answer = UnderSettings (usual_given max_bytes)
     (λ settings. Styled (notation_of style) (λ notation. TextAnswers (AreCreditLinesWith notation settings log) (IsUnread (NeedsMemoryForCreditLines notation) limit settings log) old new answer) old new answer)
-    (AnswersRefusal old new answer)
+    old new answer
 
 -- how two logs compare, or why one has no meaning
-abbrev pub CompareAnswers : ℕ → ℕ → ℕ → ℕ → List ℕ → List ℕ → UdsnormAnswer → Type 0
-CompareAnswers limit tester unit max_bytes left right answer = UnderSettings tester unit max_bytes
-    (λ settings. (compared : Result CountedComparison CompareFault) × ComparesWithCounts limit settings left right compared × (answer ≡ comparison_answer compared))
-    (λ fault. answer ≡ refusal_of fault)
+abbrev pub CompareAnswers : ℕ → GivenValue → List ℕ → List ℕ → List ℕ → List ℕ → UdsnormAnswer → Type 0
+CompareAnswers limit given left right old new answer = UnderSettings given
+    (λ settings. (new ≡ old) × ((compared : Result CountedComparison CompareFault) × ComparesWithCounts limit settings left right compared × (answer ≡ comparison_answer compared)))
+    old new answer
 
 -- with these settings the text of where two accepted logs differ, in this notation and with these names, and how they compare;
 -- or why there is none
@@ -217,9 +230,9 @@ StyledDifferencePuts limit style left_name right_name left right old new answer 
     Styled (notation_of style) (DifferencePuts limit left_name right_name left right old new answer settings) old new answer
 
 -- such a text, or why there is none
-abbrev pub DiffAnswers : ℕ → ℕ → ℕ → ℕ → ℕ → List ℕ → List ℕ → List ℕ → List ℕ → List ℕ → List ℕ → UdsnormAnswer → Type 0
-DiffAnswers limit tester unit max_bytes style left_name right_name left right old new answer =
-    UnderSettings tester unit max_bytes (StyledDifferencePuts limit style left_name right_name left right old new answer) (AnswersRefusal old new answer)
+abbrev pub DiffAnswers : ℕ → GivenValue → ℕ → List ℕ → List ℕ → List ℕ → List ℕ → List ℕ → List ℕ → UdsnormAnswer → Type 0
+DiffAnswers limit given style left_name right_name left right old new answer =
+    UnderSettings given (StyledDifferencePuts limit style left_name right_name left right old new answer) old new answer
 
 -- with these settings the page of a log that can be read, in some style and with this name, or why it can't be
 abbrev pub PagePuts : ℕ → List ℕ → List ℕ → List ℕ → List ℕ → UdsnormAnswer → Settings → Type 0
@@ -227,9 +240,8 @@ PagePuts limit name log old new answer settings =
     (style : List ℕ) × TextAnswers (IsPageWith (page_title style name settings) limit settings log) (IsUnread NeedsMemoryForPage limit settings log) old new answer
 
 -- such a page, or why there is none
-abbrev pub ReportAnswers : ℕ → ℕ → ℕ → ℕ → List ℕ → List ℕ → List ℕ → List ℕ → UdsnormAnswer → Type 0
-ReportAnswers limit tester unit max_bytes name log old new answer =
-    UnderSettings tester unit max_bytes (PagePuts limit name log old new answer) (AnswersRefusal old new answer)
+abbrev pub ReportAnswers : ℕ → GivenValue → List ℕ → List ℕ → List ℕ → List ℕ → UdsnormAnswer → Type 0
+ReportAnswers limit given name log old new answer = UnderSettings given (PagePuts limit name log old new answer) old new answer
 
 -- with these settings the page of two logs that can be read, in some style and with these names, or why there is none
 abbrev pub PairPagePuts : ℕ → List ℕ → List ℕ → List ℕ → List ℕ → List ℕ → List ℕ → UdsnormAnswer → Settings → Type 0
@@ -239,6 +251,6 @@ PairPagePuts limit left_name right_name left right old new answer settings =
     × IsPagePut told old new answer
 
 -- such a page, or why there is none
-abbrev pub ReportPairAnswers : ℕ → ℕ → ℕ → ℕ → List ℕ → List ℕ → List ℕ → List ℕ → List ℕ → List ℕ → UdsnormAnswer → Type 0
-ReportPairAnswers limit tester unit max_bytes left_name right_name left right old new answer =
-    UnderSettings tester unit max_bytes (PairPagePuts limit left_name right_name left right old new answer) (AnswersRefusal old new answer)
+abbrev pub ReportPairAnswers : ℕ → GivenValue → List ℕ → List ℕ → List ℕ → List ℕ → List ℕ → List ℕ → UdsnormAnswer → Type 0
+ReportPairAnswers limit given left_name right_name left right old new answer =
+    UnderSettings given (PairPagePuts limit left_name right_name left right old new answer) old new answer

@@ -48,6 +48,7 @@ status_words status =
     else if status == 8 then codes "out of memory"
     else if status == 9 then codes "not enough room for the text"
     else if status == 10 then codes "no such style"
+    else if status == 11 then codes "something is wrong in the profile"
     else codes "no such status"
 
 -- these words as C has them: in 48 bytes, of which each behind them is 0

@@ -36,6 +36,7 @@ pub struct UdsnormAnswer {
     pub ended: u64,
     pub unfinished: u64,
     pub pending: u64,
+    pub left_out: u64,
 }
 
 /// What a status means, in a few words, with a 0 behind them.
@@ -70,6 +71,8 @@ const ROOM: u32 = 9;
 
 const STYLE: u32 = 10;
 
+const PROFILE: u32 = 11;
+
 const NOTHING: UdsnormAnswer = UdsnormAnswer {
     status: DONE,
     column: 0,
@@ -87,6 +90,7 @@ const NOTHING: UdsnormAnswer = UdsnormAnswer {
     ended: 0,
     unfinished: 0,
     pending: 0,
+    left_out: 0,
 };
 
 /// What a status means.
@@ -105,6 +109,7 @@ pub(crate) fn status_words(status: u32) -> &'static [u8]
         MEMORY => b"out of memory",
         ROOM => b"not enough room for the text",
         STYLE => b"no such style",
+        PROFILE => b"something is wrong in the profile",
         _ => b"no such status",
     }
 }
@@ -132,6 +137,24 @@ pub(crate) fn refusal_of(fault: ConfigFault) -> UdsnormAnswer
         ConfigFault::SameId => SAME_ID,
         ConfigFault::LimitRange => LIMIT_RANGE,
     })
+}
+
+/// The answer where memory is refused before the log is read.
+pub(crate) fn memory_answer() -> UdsnormAnswer
+    ensures { result ≡ Spec.status_alone 8 }
+{
+    status_alone(MEMORY)
+}
+
+/// The answer where something is wrong in a profile, at this line of it, of which a text of this length tells.
+pub(crate) fn profile_answer(line: u64, length: usize) -> UdsnormAnswer
+    ensures { result ≡ Spec.profile_answer line length }
+{
+    UdsnormAnswer {
+        line,
+        length: length as u64,
+        ..status_alone(PROFILE)
+    }
 }
 
 /// The answer of a log that is refused, or for which memory was.
@@ -170,6 +193,7 @@ pub(crate) fn text_answer(length: usize, summary: Summary, room: usize) -> Udsno
         ended: summary.ended,
         unfinished: summary.unfinished,
         pending: summary.pending,
+        left_out: summary.left_out,
         ..status_alone(text_status(length, room))
     }
 }

@@ -2,10 +2,15 @@
 //! crate that a proof needs is called.
 
 ghost use Rattle.udsnorm_c.specs.Laws.{CleanCompareIsRecorded, CleanDiffIsRecorded, CleanExplainIsRecorded, CleanListIsRecorded, CleanMessagesAreRecorded, CleanNormaliseIsRecorded, CleanReportIsRecorded, CleanReportPairIsRecorded};
-ghost use Rattle.udsnorm_c.specs.Laws.{CompareTellsEqualTexts, DiffAgreesWithCompare, DiffIsEmptyOfEqualLogs, EqualMeaningsHaveEqualTexts, PairPageAgreesWithCompare, StatusesAreToldApart};
+ghost use Rattle.udsnorm_c.specs.Laws.{CompareTellsEqualTexts, DiffAgreesWithCompare, DiffIsEmptyOfEqualLogs, EqualMeaningsHaveEqualTexts, PairPageAgreesWithCompare, SettingsAreOne, StatusesAreToldApart};
 
 use trace_log::laws::{clean_log_has_both_sides, outcome_is_one};
 use trace_pair::laws::agrees_with_compare;
+
+/// What a call is handed asks for one configuration at most.
+pub fn settings_are_one()
+    ensures { SettingsAreOne }
+{}
 
 /// Two logs have equal meaning exactly where their canonical logs, as they were put, are equal; and so comparing tells.
 pub fn equal_meanings_have_equal_texts()

@@ -1,7 +1,7 @@
 //! The canonical form for C: logs in memory, and texts about them in memory of the caller.
 //!
 //! A call is handed the identifiers of the two sides, as Linux's `canid_t` has them, the limit of a log and of its
-//! canonical log in bytes, a log, and room for a text. What came of it stands in the answer, and its status is the
+//! canonical log in bytes, the text of a profile and the name of one of its units, a log, and room for a text. What came of it stands in the answer, and its status is the
 //! result too. Where the room is too small, nothing is put there, and the answer says how much is wanted. `udsnorm.h`
 //! has the calls for C.
 //!
@@ -11,20 +11,23 @@
 ghost use Rattle.std.specs.Prelude.{◌≡◌, slice_index_or};
 ghost use Rattle.isotp_receive.specs.declared.TheConstants.{MESSAGE_LIMIT};
 ghost use Rattle.udsnorm_c.specs.Answered.{CompareAnswers, DiffAnswers, ExplainAnswers, FindAnswers, ListAnswers, MessagesAnswers, NormaliseAnswers, ReportAnswers, ReportPairAnswers};
+ghost use Rattle.udsnorm_c.specs.Given.{given_of};
 ghost use Rattle.udsnorm_c.specs.Spelled.{version, words_for_c};
 
 mod answer;
 mod differences;
+mod given;
 pub mod laws;
 mod pages;
 mod room;
 mod sides;
 
-use crate::answer::{WORDS, comparison_answer, no_style, refusal_of, status_words};
+use crate::answer::{WORDS, comparison_answer, no_style, status_words};
 use crate::differences::put_pair_difference;
+use crate::given::{Given, config_given, put_refusal, usual_given};
 use crate::pages::{put_pair_report, put_report};
 use crate::room::{put, put_front};
-use crate::sides::{USUAL_TESTER, USUAL_UNIT, config_of, notation_of, style_of};
+use crate::sides::{notation_of, style_of};
 pub use answer::{UdsnormAnswer, UdsnormWords};
 use std::alloc::Global;
 use trace_canon::in_memory;
@@ -39,16 +42,27 @@ pub extern "C" fn udsnorm_normalise(
     tester: u32,
     unit: u32,
     limit: u64,
+    profile: &[u8],
+    only: &[u8],
     log: &[u8],
     out: &mut [u8],
     answer: &mut UdsnormAnswer,
 ) -> u32
-    ensures answers { NormaliseAnswers MESSAGE_LIMIT tester unit limit log.now out.old out.new answer.new }
+    ensures answers { NormaliseAnswers MESSAGE_LIMIT (given_of tester unit limit profile.now only.now) log.now out.old out.new answer.new }
     ensures status { result ≡ answer.new.status }
 {
-    *answer = match config_of(tester, unit, limit) {
+    *answer = match config_given(
+        alloc,
+        Given {
+            tester,
+            unit,
+            limit,
+            profile,
+            only,
+        },
+    ) {
         Ok(config) => put(in_memory::canonical_log(alloc, &config, log), out),
-        Err(fault) => refusal_of(fault),
+        Err(why) => put_refusal(why, out),
     };
     answer.status
 }
@@ -60,20 +74,31 @@ pub extern "C" fn udsnorm_list(
     tester: u32,
     unit: u32,
     limit: u64,
+    profile: &[u8],
+    only: &[u8],
     style: u32,
     log: &[u8],
     out: &mut [u8],
     answer: &mut UdsnormAnswer,
 ) -> u32
-    ensures answers { ListAnswers MESSAGE_LIMIT tester unit limit style log.now out.old out.new answer.new }
+    ensures answers { ListAnswers MESSAGE_LIMIT (given_of tester unit limit profile.now only.now) style log.now out.old out.new answer.new }
     ensures status { result ≡ answer.new.status }
 {
-    *answer = match config_of(tester, unit, limit) {
+    *answer = match config_given(
+        alloc,
+        Given {
+            tester,
+            unit,
+            limit,
+            profile,
+            only,
+        },
+    ) {
         Ok(config) => match style_of(style) {
             Some(style) => put(in_memory::item_list(alloc, &config, style, log), out),
             None => no_style(),
         },
-        Err(fault) => refusal_of(fault),
+        Err(why) => put_refusal(why, out),
     };
     answer.status
 }
@@ -85,20 +110,31 @@ pub extern "C" fn udsnorm_messages(
     tester: u32,
     unit: u32,
     limit: u64,
+    profile: &[u8],
+    only: &[u8],
     style: u32,
     log: &[u8],
     out: &mut [u8],
     answer: &mut UdsnormAnswer,
 ) -> u32
-    ensures answers { MessagesAnswers MESSAGE_LIMIT tester unit limit style log.now out.old out.new answer.new }
+    ensures answers { MessagesAnswers MESSAGE_LIMIT (given_of tester unit limit profile.now only.now) style log.now out.old out.new answer.new }
     ensures status { result ≡ answer.new.status }
 {
-    *answer = match config_of(tester, unit, limit) {
+    *answer = match config_given(
+        alloc,
+        Given {
+            tester,
+            unit,
+            limit,
+            profile,
+            only,
+        },
+    ) {
         Ok(config) => match notation_of(style) {
             Some(notation) => put(in_memory::message_lines(alloc, &config, notation, log), out),
             None => no_style(),
         },
-        Err(fault) => refusal_of(fault),
+        Err(why) => put_refusal(why, out),
     };
     answer.status
 }
@@ -110,20 +146,31 @@ pub extern "C" fn udsnorm_explain(
     tester: u32,
     unit: u32,
     limit: u64,
+    profile: &[u8],
+    only: &[u8],
     style: u32,
     log: &[u8],
     out: &mut [u8],
     answer: &mut UdsnormAnswer,
 ) -> u32
-    ensures answers { ExplainAnswers MESSAGE_LIMIT tester unit limit style log.now out.old out.new answer.new }
+    ensures answers { ExplainAnswers MESSAGE_LIMIT (given_of tester unit limit profile.now only.now) style log.now out.old out.new answer.new }
     ensures status { result ≡ answer.new.status }
 {
-    *answer = match config_of(tester, unit, limit) {
+    *answer = match config_given(
+        alloc,
+        Given {
+            tester,
+            unit,
+            limit,
+            profile,
+            only,
+        },
+    ) {
         Ok(config) => match notation_of(style) {
             Some(notation) => put(in_memory::explanation(alloc, &config, notation, log), out),
             None => no_style(),
         },
-        Err(fault) => refusal_of(fault),
+        Err(why) => put_refusal(why, out),
     };
     answer.status
 }
@@ -141,12 +188,12 @@ pub extern "C" fn udsnorm_find(
     ensures answers { FindAnswers MESSAGE_LIMIT limit style log.now out.old out.new answer.new }
     ensures status { result ≡ answer.new.status }
 {
-    *answer = match config_of(USUAL_TESTER, USUAL_UNIT, limit) {
+    *answer = match config_given(alloc, usual_given(limit)) {
         Ok(config) => match notation_of(style) {
             Some(notation) => put(in_memory::credit_lines(alloc, &config, notation, log), out),
             None => no_style(),
         },
-        Err(fault) => refusal_of(fault),
+        Err(why) => put_refusal(why, out),
     };
     answer.status
 }
@@ -158,16 +205,28 @@ pub extern "C" fn udsnorm_compare(
     tester: u32,
     unit: u32,
     limit: u64,
+    profile: &[u8],
+    only: &[u8],
     left: &[u8],
     right: &[u8],
+    out: &mut [u8],
     answer: &mut UdsnormAnswer,
 ) -> u32
-    ensures answers { CompareAnswers MESSAGE_LIMIT tester unit limit left.now right.now answer.new }
+    ensures answers { CompareAnswers MESSAGE_LIMIT (given_of tester unit limit profile.now only.now) left.now right.now out.old out.new answer.new }
     ensures status { result ≡ answer.new.status }
 {
-    *answer = match config_of(tester, unit, limit) {
+    *answer = match config_given(
+        alloc,
+        Given {
+            tester,
+            unit,
+            limit,
+            profile,
+            only,
+        },
+    ) {
         Ok(config) => comparison_answer(in_memory::comparison(alloc, &config, left, right)),
-        Err(fault) => refusal_of(fault),
+        Err(why) => put_refusal(why, out),
     };
     answer.status
 }
@@ -179,6 +238,8 @@ pub extern "C" fn udsnorm_diff(
     tester: u32,
     unit: u32,
     limit: u64,
+    profile: &[u8],
+    only: &[u8],
     style: u32,
     left_name: &[u8],
     left: &[u8],
@@ -187,14 +248,23 @@ pub extern "C" fn udsnorm_diff(
     out: &mut [u8],
     answer: &mut UdsnormAnswer,
 ) -> u32
-    ensures answers { DiffAnswers MESSAGE_LIMIT tester unit limit style left_name.now right_name.now left.now right.now out.old out.new answer.new }
+    ensures answers { DiffAnswers MESSAGE_LIMIT (given_of tester unit limit profile.now only.now) style left_name.now right_name.now left.now right.now out.old out.new answer.new }
     ensures status { result ≡ answer.new.status }
 {
-    *answer = match config_of(tester, unit, limit) {
+    *answer = match config_given(
+        alloc,
+        Given {
+            tester,
+            unit,
+            limit,
+            profile,
+            only,
+        },
+    ) {
         Ok(config) => put_pair_difference(
             alloc, &config, style, left_name, left, right_name, right, out,
         ),
-        Err(fault) => refusal_of(fault),
+        Err(why) => put_refusal(why, out),
     };
     answer.status
 }
@@ -206,17 +276,28 @@ pub extern "C" fn udsnorm_report(
     tester: u32,
     unit: u32,
     limit: u64,
+    profile: &[u8],
+    only: &[u8],
     name: &[u8],
     log: &[u8],
     out: &mut [u8],
     answer: &mut UdsnormAnswer,
 ) -> u32
-    ensures answers { ReportAnswers MESSAGE_LIMIT tester unit limit name.now log.now out.old out.new answer.new }
+    ensures answers { ReportAnswers MESSAGE_LIMIT (given_of tester unit limit profile.now only.now) name.now log.now out.old out.new answer.new }
     ensures status { result ≡ answer.new.status }
 {
-    *answer = match config_of(tester, unit, limit) {
+    *answer = match config_given(
+        alloc,
+        Given {
+            tester,
+            unit,
+            limit,
+            profile,
+            only,
+        },
+    ) {
         Ok(config) => put_report(alloc, &config, name, log, out),
-        Err(fault) => refusal_of(fault),
+        Err(why) => put_refusal(why, out),
     };
     answer.status
 }
@@ -228,6 +309,8 @@ pub extern "C" fn udsnorm_report_pair(
     tester: u32,
     unit: u32,
     limit: u64,
+    profile: &[u8],
+    only: &[u8],
     left_name: &[u8],
     left: &[u8],
     right_name: &[u8],
@@ -235,12 +318,21 @@ pub extern "C" fn udsnorm_report_pair(
     out: &mut [u8],
     answer: &mut UdsnormAnswer,
 ) -> u32
-    ensures answers { ReportPairAnswers MESSAGE_LIMIT tester unit limit left_name.now right_name.now left.now right.now out.old out.new answer.new }
+    ensures answers { ReportPairAnswers MESSAGE_LIMIT (given_of tester unit limit profile.now only.now) left_name.now right_name.now left.now right.now out.old out.new answer.new }
     ensures status { result ≡ answer.new.status }
 {
-    *answer = match config_of(tester, unit, limit) {
+    *answer = match config_given(
+        alloc,
+        Given {
+            tester,
+            unit,
+            limit,
+            profile,
+            only,
+        },
+    ) {
         Ok(config) => put_pair_report(alloc, &config, left_name, left, right_name, right, out),
-        Err(fault) => refusal_of(fault),
+        Err(why) => put_refusal(why, out),
     };
     answer.status
 }

@@ -1,11 +1,9 @@
 //! What C names by numbers: identifiers and styles.
 ghost use Rattle.std.specs.Prelude.{◌≡◌};
-ghost use Rattle.trace_log.specs.Settings.{Configures};
 ghost use Rattle.udsnorm_c.specs.Spelled.{identifier_of, list_style, written};
 ghost use Rattle.udsnorm_c.specs.Spelled as Spec;
 
 use can_log::Id;
-use trace_log::{Config, ConfigFault};
 use trace_text::{ItemStyle, Notation, Numbering};
 
 /// The identifiers where none is asked for.
@@ -19,15 +17,8 @@ const EXTENDED: u32 = 0x8000_0000;
 /// The number of no base identifier.
 const NONE: u16 = 0xFFFF;
 
-/// The configuration of two identifiers, as Linux's `canid_t` has them, and a limit.
-pub(crate) fn config_of(tester: u32, unit: u32, limit: u64) -> Result<Config, ConfigFault>
-    ensures { Configures (identifier_of tester) (identifier_of unit) limit result }
-{
-    Config::new(identifier(tester), identifier(unit), limit)
-}
-
 /// An identifier as Linux's `canid_t` has it.
-fn identifier(number: u32) -> Id
+pub(crate) fn identifier(number: u32) -> Id
     ensures { result ≡ identifier_of number }
 {
     if number >= EXTENDED {

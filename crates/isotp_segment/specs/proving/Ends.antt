@@ -5,4 +5,5 @@ use Rattle.std.specs.Prelude.{ℕ, ◌-◌, ◌/◌, List, [], ◌∷◌, ◌++�
 abbrev pub ends_of : List ℕ → List ℕ
 ends_of message =
     if nat_le 4 (length message) then take 4 message ++ take 4 (drop (length message - 4) message)
-    else slice_index_or message 0 0 ∷ slice_index_or message (length message / 2) 0 ∷ slice_index_or message (length message - 1) 0 ∷ 0 ∷ 0 ∷ 0 ∷ 0 ∷ 0 ∷ []
+    else slice_index_or message 0 0 ∷ slice_index_or message (length message / 2) 0
+    ∷ slice_index_or message (length message - 1) 0 ∷ 0 ∷ 0 ∷ 0 ∷ 0 ∷ 0 ∷ []

@@ -1,4 +1,5 @@
--- A device of proof: what is known inside an iterator over the frames of a message. Callers see the frames that are left, and nothing of this.
+-- A device of proof: what is known inside an iterator over the frames of a message. Callers see the frames that are
+-- left, and nothing of this.
 use Rattle.std.specs.Prelude.{◌≡◌, ◌≤◌, ℕ, List, length}
 use Rattle.isotp_receive.specs.declared.TheConstants.{MESSAGE_LIMIT}
 use Rattle.isotp_segment.specs.CanonicalFrames.{frame_count}

@@ -1,7 +1,7 @@
 -- Devices of proof: what was heard of the lines of a log.
 use Rattle.std.specs.Prelude.{◌≡◌, ℕ, List, length, Option}
 use Rattle.can_log.specs.declared.frame.Stamped.{Stamped}
-use Rattle.trace_canon.specs.CreditLines.{frames_in}
+use Rattle.trace_canon.specs.Heard.{frames_in}
 use Rattle.uds_find.specs.Finding.{FinderValue, StandsAfter}
 
 -- All lines that mean this were heard.

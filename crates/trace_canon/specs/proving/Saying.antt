@@ -14,9 +14,9 @@ use Rattle.trace_canon.specs.proving.Writing.{ProgressValue, text_from, progress
 -- the lines of a message that was put were said
 abbrev pub SaysPutMessage : {S : Type 0} → (S → List ℕ → S → Type 0) → CanonicalSink S → Dir → List ℕ → CanonicalSink S → Type 0
 SaysPutMessage says s d message t =
-    (t.out.ghost_name ≡ s.out.ghost_name) × (t.progress.ghost_name ≡ s.progress.ghost_name) × (t.config ≡ s.config)
-    × (t.progress.now ≡ progress_after s.config s.progress.now (canonical_frames MESSAGE_LIMIT d message))
-    × says s.out.now (text_from s.config s.progress.now (canonical_frames MESSAGE_LIMIT d message)) t.out.now
+    (t.out.ghost_name ≡ s.out.ghost_name) × (t.progress.ghost_name ≡ s.progress.ghost_name) × (t.config.now ≡ s.config.now)
+    × (t.progress.now ≡ progress_after s.config.now s.progress.now (canonical_frames MESSAGE_LIMIT d message))
+    × says s.out.now (text_from s.config.now s.progress.now (canonical_frames MESSAGE_LIMIT d message)) t.out.now
 
 -- the lines of the messages that are due with this one were said
 abbrev pub SaysDue : {S : Type 0} → (S → List ℕ → S → Type 0) → Settings → List Message → Message

@@ -3,8 +3,8 @@ use Rattle.std.specs.Prelude.{ℕ, ◌+◌, ◌-◌, ◌==◌, Bool, false, ◌|
 use Rattle.uds_exchange.specs.Meaning.{ItemValue}
 use Rattle.shown_rows.specs.declared.changes.Change.{Change}
 use Rattle.trace_report.specs.Session.{SessionValue}
-use Rattle.trace_pair.specs.declared.log.PairLog.{PairLog}
-use Rattle.trace_pair.specs.declared.log.PairLog.TheVariants.{A, B}
+use Rattle.pair_words.specs.declared.log.PairLog.{PairLog}
+use Rattle.pair_words.specs.declared.log.PairLog.TheVariants.{A, B}
 use Rattle.trace_pair.specs.Differences.{difference_line, more_start, open_differences}
 use Rattle.trace_pair.specs.Verdict.{is_exchange, is_lossy}
 

@@ -1,7 +1,7 @@
 -- Devices of proof: the losses that rows tell, one row after another.
 use Rattle.std.specs.Prelude.{ℕ, ◌&&◌, List, [], ◌∷◌, nat_lt, Option, Some, None, if◌then◌else◌}
 use Rattle.trace_report.specs.Rows.{RowValue}
-use Rattle.trace_pair.specs.declared.log.PairLog.{PairLog}
+use Rattle.pair_words.specs.declared.log.PairLog.{PairLog}
 use Rattle.trace_pair.specs.Losses.{is_loss, loss_line, told_losses}
 
 -- the rows that tell a loss

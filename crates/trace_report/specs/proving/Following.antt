@@ -8,9 +8,11 @@ use Rattle.isotp_receive.specs.StandingReception.{StandingReception, stands}
 use Rattle.isotp_receive.specs.Trace.{Entry, same_direction}
 use Rattle.isotp_receive.specs.Verdict.{EventValue, VerdictValue, message, began, stored, flowed, dropped, messages}
 use Rattle.uds_exchange.specs.Judging.{one_more, step_after}
-use Rattle.uds_exchange.specs.Judging.{open_number_if_any}
+use Rattle.uds_exchange.specs.proving.ItemNumbers.{open_number_if_any}
 use Rattle.uds_exchange.specs.Order.{open_request}
 use Rattle.uds_message.specs.Message.{is_suppressing}
+use Rattle.uds_rules.specs.Rule.{RuleValue}
+use Rattle.trace_log.specs.Messages.{messages_under}
 use Rattle.trace_canon.specs.declared.reception_starts.FramePlace.{FramePlace}
 use Rattle.trace_canon.specs.ReceptionStarts.{AreStartsAfter}
 use Rattle.trace_report.specs.Blocks.{blocks_of}
@@ -19,6 +21,7 @@ use Rattle.trace_report.specs.Front.{PageTitleValue}
 use Rattle.trace_report.specs.Page.{last_time}
 use Rattle.trace_report.specs.Rows.{RowValue, row_of}
 use Rattle.trace_report.specs.Rows as row
+use Rattle.trace_run.specs.Spoken.{spoken_counts}
 use Rattle.trace_report.specs.Sorts.{tally_of}
 use Rattle.trace_report.specs.declared.chart.Chart.{Chart}
 use Rattle.trace_report.specs.declared.extents.ReceptionExtents.{ReceptionExtents}
@@ -83,8 +86,8 @@ MeetsMessage M sent here asked follower =
     KnowsMessages (M ++ sent ∷ []) (if is_request_step (step_after M sent) then here.micros else asked) follower
 
 -- all that the rows of further frames depend on is known after the frames T
-pub record Follows (T : List Entry) (follower : Follower) : Type 0 where
-  pub met : KnowsMessages (messages MESSAGE_LIMIT T) (asked_in MESSAGE_LIMIT T) follower
+pub record Follows (rules : List RuleValue) (T : List Entry) (follower : Follower) : Type 0 where
+  pub met : KnowsMessages (messages_under rules MESSAGE_LIMIT T) (asked_in MESSAGE_LIMIT rules T) follower
   pub extents : KnowsExtents T follower.extents
 
 -- the row that is there, if one is
@@ -124,9 +127,10 @@ times_of [] = None
 times_of (e ∷ rest) = Some (record { first = e.micros; last = last_time e.micros rest })
 
 -- the page is said up to the rows of the frames T
-pub record Reports (title : PageTitleValue) (T : List Entry) (reporter : Reporter) : Type 0 where
+pub record Reports (rules : List RuleValue) (title : PageTitleValue) (T : List Entry) (reporter : Reporter) : Type 0 where
   pub few : length T ≤ 2 ^ 62
   pub same : title_of reporter.title ≡ title
   pub times : reporter.times ≡ times_of T
-  pub follows : Follows T reporter.follower
-  pub chart : IsChartOf (rows_of MESSAGE_LIMIT T) reporter.chart
+  pub follows : Follows rules T reporter.follower
+  pub chart : IsChartOf (rows_of MESSAGE_LIMIT rules T) reporter.chart
+  pub spoken : reporter.spoken.items ≡ spoken_counts title.rules (messages MESSAGE_LIMIT T)

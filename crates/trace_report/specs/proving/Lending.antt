@@ -16,5 +16,11 @@ last_of_times (Some times) = times.last
 
 -- what was found of a log, as it is
 abbrev pub findings_value : Findings → FindingsValue
-findings_value found =
-    record { tally = found.tally.now; summary = found.summary.now; first = first_of_times found.times; last = last_of_times found.times }
+findings_value found = record {
+  rules = found.rules.now;
+  spoken = found.spoken.now;
+  tally = found.tally.now;
+  summary = found.summary.now;
+  first = first_of_times found.times;
+  last = last_of_times found.times;
+}

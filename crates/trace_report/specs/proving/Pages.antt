@@ -4,4 +4,11 @@ use Rattle.trace_report.specs.declared.front.PageTitle.{PageTitle}
 
 -- what a page is made for, as it is
 abbrev pub title_of : PageTitle → PageTitleValue
-title_of title = record { style = title.style.now; name = title.name.now; tester = title.tester; unit = title.unit; max_bytes = title.max_bytes }
+title_of title = record {
+  style = title.style.now;
+  name = title.name.now;
+  tester = title.tester;
+  unit = title.unit;
+  max_bytes = title.max_bytes;
+  rules = title.rules.now;
+}

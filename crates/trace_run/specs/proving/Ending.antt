@@ -2,7 +2,6 @@
 use Rattle.std.specs.Prelude.{◌≡◌, ℕ, ◌⊎◌, Bool, true, false, List, ◌++◌, Option, Result, Ok, Err}
 use Rattle.can_log.specs.declared.frame.Stamped.{Stamped}
 use Rattle.isotp_receive.specs.declared.TheConstants.{MESSAGE_LIMIT}
-use Rattle.isotp_receive.specs.Verdict.{messages}
 use Rattle.trace_io.specs.declared.device.Target.{Ghosts as TargetGhosts}
 use Rattle.trace_log.specs.Settings.{Settings}
 use Rattle.trace_log.specs.Summing.{ends_in_line_feed, summary_of}
@@ -10,14 +9,14 @@ use Rattle.trace_log.specs.Trace.{trace}
 use Rattle.trace_log.specs.declared.fault.Fault.{Fault}
 use Rattle.trace_log.specs.declared.fault.Fault.TheVariants as fault
 use Rattle.trace_log.specs.proving.Receiving.{Receives}
-use Rattle.uds_exchange.specs.Judging.{IsJudgeOf}
 use Rattle.trace_run.specs.Script.{GlimpseValue, refusal_of_lines, whole_of_lines}
 use Rattle.trace_run.specs.declared.machine.Machine.{Ghosts as MachineGhosts}
 use Rattle.trace_run.specs.declared.machine.NoAnswer.{NoAnswer}
 use Rattle.trace_run.specs.declared.machine.NoAnswer.TheVariants as no_answer
-use Rattle.trace_run.specs.declared.page.Page.{Page}
+use Rattle.trace_run.specs.declared.sheet.Sheet.{Sheet}
 use Rattle.trace_run.specs.declared.receiver.Receiver.{Receiver}
-use Rattle.trace_run.specs.proving.Carrying.{Carries, WritesOn, blank_page}
+use Rattle.trace_run.specs.proving.Carrying.{Carries, WritesOn, blank_sheet}
+use Rattle.trace_run.specs.proving.Ruling.{HasJudged}
 use Rattle.trace_run.specs.proving.Telling.{Start, HasTold}
 
 module _ {W : Type 0} (target : TargetGhosts W) where
@@ -25,20 +24,20 @@ module _ {W : Type 0} (target : TargetGhosts W) where
   -- fault
   abbrev pub EndsAs : Fault → W → List ℕ → Fault → W → Type 0
   EndsAs name start said result new =
-      ((result ≡ name) × Carries target start said (blank_page false) new)
-      ⊎ ((result ≡ fault.Write) × Carries target start said (blank_page true) new)
+      ((result ≡ name) × Carries target start said (blank_sheet false) new)
+      ⊎ ((result ≡ fault.Write) × Carries target start said (blank_sheet true) new)
 
-  -- whatever was said to a page before the fault with this name is written before it; or that failed, which is then the
-  -- fault
-  abbrev pub SettlesAs : Fault → Page → W → Fault → W → Type 0
-  SettlesAs name page old result new =
-      (start : W) (said : List ℕ) → Carries target start said page old → EndsAs name start said result new
+  -- whatever was said to a sheet before the fault with this name is written before it; or that failed, which is then
+  -- the fault
+  abbrev pub SettlesAs : Fault → Sheet → W → Fault → W → Type 0
+  SettlesAs name sheet old result new =
+      (start : W) (said : List ℕ) → Carries target start said sheet old → EndsAs name start said result new
 
-  -- whatever was said to a page before the fault with this name is written before it, with this text behind it; or that
-  -- failed
-  abbrev pub SettlesWith : List ℕ → Fault → Page → W → Fault → W → Type 0
-  SettlesWith text name page old result new =
-      (start : W) (said : List ℕ) → Carries target start said page old → EndsAs name start (said ++ text) result new
+  -- whatever was said to a sheet before the fault with this name is written before it, with this text behind it; or
+  -- that failed
+  abbrev pub SettlesWith : List ℕ → Fault → Sheet → W → Fault → W → Type 0
+  SettlesWith text name sheet old result new =
+      (start : W) (said : List ℕ) → Carries target start said sheet old → EndsAs name start (said ++ text) result new
 
 -- How a run ends on a fault, where this is then seen of its source.
 module _ {A M W : Type 0} (machine : MachineGhosts M A) (target : TargetGhosts W) (glimpse : GlimpseValue) where
@@ -47,10 +46,11 @@ module _ {A M W : Type 0} (machine : MachineGhosts M A) (target : TargetGhosts W
   RefusesSaying why receiver old result new =
       (machine_start : M) (settings : Settings) (meanings : List (Option Stamped))
       → Receives settings meanings receiver.pair receiver.lines receiver.counts
-      → IsJudgeOf (messages MESSAGE_LIMIT (trace settings meanings)) receiver.telling.judge
-      → machine.stands machine_start (trace settings meanings) receiver.telling.machine
-      → SettlesWith target (refusal_of_lines (machine.refusal machine_start glimpse) MESSAGE_LIMIT settings why meanings)
-      why receiver.telling.page old result new
+      → HasJudged settings.rules (trace settings meanings) receiver.telling.judge receiver.telling.ruling.left_out
+      → machine.stands settings.rules machine_start (trace settings meanings) receiver.telling.machine
+      → SettlesWith target
+      (refusal_of_lines (machine.refusal settings.rules machine_start glimpse) MESSAGE_LIMIT settings why meanings)
+      why receiver.telling.sheet old result new
 
   -- a fault of a device stands as it is, and before others all that is said is written
   abbrev pub GivesUp : Fault → Receiver M W → W → Fault → W → Type 0
@@ -58,10 +58,10 @@ module _ {A M W : Type 0} (machine : MachineGhosts M A) (target : TargetGhosts W
       RefusesSaying (fault.BadLine line column) receiver old result new
   GivesUp fault.LogLimit receiver old result new = RefusesSaying fault.LogLimit receiver old result new
   GivesUp (fault.Oversize line announced) receiver old result new =
-      SettlesAs target (fault.Oversize line announced) receiver.telling.page old result new
+      SettlesAs target (fault.Oversize line announced) receiver.telling.sheet old result new
   GivesUp fault.OutputLimit receiver old result new =
-      SettlesAs target fault.OutputLimit receiver.telling.page old result new
-  GivesUp fault.Memory receiver old result new = SettlesAs target fault.Memory receiver.telling.page old result new
+      SettlesAs target fault.OutputLimit receiver.telling.sheet old result new
+  GivesUp fault.Memory receiver old result new = SettlesAs target fault.Memory receiver.telling.sheet old result new
   GivesUp fault.Read receiver old result new = (result ≡ fault.Read) × (new ≡ old)
   GivesUp fault.Write receiver old result new = (result ≡ fault.Write) × (new ≡ old)
 
@@ -70,19 +70,20 @@ module _ {A M W : Type 0} (machine : MachineGhosts M A) (target : TargetGhosts W
     (log : List ℕ) (meanings : List (Option Stamped)) where
   -- all that is said of the log
   abbrev pub whole_since : List ℕ
-  whole_since = whole_of_lines (machine.script start.machine) MESSAGE_LIMIT settings log meanings
+  whole_since = whole_of_lines (machine.script start.rules start.machine) MESSAGE_LIMIT settings log meanings
 
   -- with this answer of the machine, and all that is said of the log was written
   abbrev pub EndsAnswering : Result A NoAnswer → W → Type 0
   EndsAnswering result new =
-      machine.answers start.machine (trace settings meanings) (summary_of MESSAGE_LIMIT settings log meanings) result
-      × Carries target start.target whole_since (blank_page false) new
+      machine.answers start.rules start.machine (trace settings meanings) (summary_of MESSAGE_LIMIT settings log meanings)
+      result
+      × Carries target start.target whole_since (blank_sheet false) new
 
   -- with that answer, or because writing failed
   abbrev pub EndsSaying : Result A Fault → W → Type 0
   EndsSaying (Ok value) new = EndsAnswering (Ok value) new
   EndsSaying (Err fault.OutputLimit) new = EndsAnswering (Err no_answer.OutputLimit) new
-  EndsSaying (Err fault.Write) new = Carries target start.target whole_since (blank_page true) new
+  EndsSaying (Err fault.Write) new = Carries target start.target whole_since (blank_sheet true) new
   EndsSaying (Err fault.Read) new = ⊥
   EndsSaying (Err fault.Memory) new = ⊥
   EndsSaying (Err fault.LogLimit) new = ⊥
@@ -95,7 +96,7 @@ module _ {A M W : Type 0} (machine : MachineGhosts M A) (target : TargetGhosts W
   EndsRun receiver ended old result new =
       (start : Start M W) (settings : Settings) (log : List ℕ) (meanings : List (Option Stamped))
       → Receives settings meanings receiver.pair receiver.lines receiver.counts
-      → ended ≡ ends_in_line_feed log
+      → ended ≡ ends_in_line_feed log → start.rules ≡ settings.rules
       → HasTold machine target start (trace settings meanings) receiver.telling old
       → EndsSaying machine target start settings log meanings result new
 
@@ -104,5 +105,5 @@ module _ {A M W : Type 0} (machine : MachineGhosts M A) (target : TargetGhosts W
   EndsBehind receiver old new =
       (machine_start : M) (settings : Settings) (meanings : List (Option Stamped))
       → Receives settings meanings receiver.pair receiver.lines receiver.counts
-      → machine.stands machine_start (trace settings meanings) receiver.telling.machine
-      → WritesOn target receiver.telling.page old new
+      → machine.stands settings.rules machine_start (trace settings meanings) receiver.telling.machine
+      → WritesOn target receiver.telling.sheet old new

@@ -37,12 +37,12 @@ pub record HasReceived {M W : Type 0} (settings : Settings) (meanings : List (Op
   pub lines : Receives settings meanings receiver.pair receiver.lines receiver.counts
 
 module _ {A M W : Type 0} (machine : MachineGhosts M A) (target : TargetGhosts W) where
-  -- A run begins so, with these settings and with the machine `machine_start`: nothing was received, nothing told, and the
-  -- target's count of failures leaves room for one run.
+  -- A run begins so, with these settings and with the machine `machine_start`: nothing was received, nothing told, and
+  -- the target's count of failures leaves room for one run.
   pub record IsRunStart (settings : Settings) (machine_start : M) (begun : RunState M W) : Type 0 where
     pub config : begun.receiver.config ≡ settings
     pub nothing : IsStart begun.receiver.pair begun.receiver.lines begun.receiver.counts
-    pub fresh : HasToldNothing machine machine_start begun.receiver.telling
+    pub fresh : HasToldNothing machine settings.rules machine_start begun.receiver.telling
     pub low : target.failures begun.target ≤ 2 ^ 62
 
   -- The line behind those that mean this means `what`, it has a frame of a side, and there the run stopped.
@@ -62,22 +62,24 @@ module _ {A M W : Type 0} (machine : MachineGhosts M A) (target : TargetGhosts W
   abbrev pub HasTaken : Took (RunState M W)
   HasTaken before meanings now = (settings : Settings) (machine_start : M) → IsRunStart settings machine_start before
       → HasReceived settings meanings now.receiver
-      × HasTold machine target (start_with machine_start before.target) (trace settings meanings) now.receiver.telling now.target
+      × HasTold machine target (start_with settings.rules machine_start before.target) (trace settings meanings)
+      now.receiver.telling now.target
 
   -- and all that was said of them is written, or writing failed
   abbrev pub HasSettled : Bool → Took (RunState M W)
   HasSettled failed before meanings now = (settings : Settings) (machine_start : M) → IsRunStart settings machine_start before
       → HasReceived settings meanings now.receiver
-      × HasToldAndWritten machine target (start_with machine_start before.target) (trace settings meanings)
+      × HasToldAndWritten machine target (start_with settings.rules machine_start before.target) (trace settings meanings)
       now.receiver.telling failed now.target
 
   -- the lines were taken, and the run stopped at the next
   abbrev pub HasStoppedAt : Stopped (RunState M W)
-  HasStoppedAt before meanings what why now = (settings : Settings) (machine_start : M) → IsRunStart settings machine_start before
-      → StopsAtFrame settings (start_with machine_start before.target) meanings what why now
+  HasStoppedAt before meanings what why now =
+      (settings : Settings) (machine_start : M) → IsRunStart settings machine_start before
+      → StopsAtFrame settings (start_with settings.rules machine_start before.target) meanings what why now
 
   -- at least what is said of these lines, the first that were taken, is written
   abbrev pub IsSureOf : Took (RunState M W)
   IsSureOf before earlier now = (settings : Settings) (machine_start : M) → IsRunStart settings machine_start before
-      → HasWrittenAtLeast machine target (start_with machine_start before.target) (trace settings earlier)
+      → HasWrittenAtLeast machine target (start_with settings.rules machine_start before.target) (trace settings earlier)
       now.receiver.telling now.target

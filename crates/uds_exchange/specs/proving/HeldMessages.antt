@@ -1,9 +1,10 @@
 -- Devices of proof: messages that are held, by where their bytes lie.
-use Rattle.std.specs.Prelude.{◌≡◌, ℕ, List, [], ◌∷◌, length, map, sum_by}
+use Rattle.std.specs.Prelude.{◌≡◌, ℕ, List, [], ◌∷◌, map, sum_by}
 use Rattle.direction.specs.Dir.{Message}
 use Rattle.uds_exchange.specs.declared.held.HeldMessage.{HeldMessage}
 use Rattle.uds_exchange.specs.declared.messages.Span.{Span}
 use Rattle.uds_exchange.specs.Blocks.{bytes_at, IsInside}
+use Rattle.uds_exchange.specs.Order.{message_length}
 
 -- where the bytes of a held message lie
 abbrev pub span_of : HeldMessage → Span
@@ -21,10 +22,6 @@ messages_at blocks held = map (message_at blocks) held
 abbrev pub AreHeldIn : List (List ℕ) → List HeldMessage → Type 0
 AreHeldIn blocks [] = Unit {0}
 AreHeldIn blocks (first ∷ later) = IsInside blocks (span_of first) × AreHeldIn blocks later
-
--- how many bytes a message has
-abbrev pub message_length : Message → ℕ
-message_length message = length message.1
 
 -- each of the held messages lies in a block, and this is the sum of their lengths
 pub record AreHeldAndSummed (blocks : List (List ℕ)) (held : List HeldMessage) (total : ℕ) : Type 0 where

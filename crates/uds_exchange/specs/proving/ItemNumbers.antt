@@ -1,7 +1,15 @@
 -- Devices of proof: how many items there are, and which number the open exchange has, with one more message.
-use Rattle.std.specs.Prelude.{ℕ, ◌+◌, Option, Some, None}
+use Rattle.std.specs.Prelude.{ℕ, ◌+◌, List, Option, Some, None, option_map}
+use Rattle.direction.specs.Dir.{Message}
+use Rattle.uds_message.specs.Message.{sid}
+use Rattle.uds_exchange.specs.Order.{open_request}
+use Rattle.uds_exchange.specs.Judging.{open_number}
 use Rattle.uds_exchange.specs.declared.step.Step.{Step}
 use Rattle.uds_exchange.specs.declared.step.Step.TheVariants as step
+
+-- the number of the open exchange, if one is open
+abbrev pub open_number_if_any : List Message → Option ℕ
+open_number_if_any M = option_map (λ service. open_number M) (option_map sid (open_request M))
 
 -- how many items there are after this step, where there were so many
 abbrev pub item_count_after_step : Step → ℕ → ℕ

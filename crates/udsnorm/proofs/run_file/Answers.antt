@@ -1,6 +1,7 @@
 use Rattle.std.proofs.Common.{inl, ap, ◌∙◌, Some}
 use Rattle.udsnorm.specs.Values.{page_name}
-use Rattle.udsnorm.proofs.Done.{given_by, opened_as, ran_named}
+use Rattle.udsnorm.proofs.Done.{ran_named}
+use Rattle.udsnorm.proofs.OpenedFiles.{given_by, opened_as}
 use Rattle.udsnorm.proofs.run_file.Goals as goal
 
 pub returns-in-Ok-clause-did : goal.returns-in-Ok-clause-did

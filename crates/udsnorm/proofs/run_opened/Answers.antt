@@ -1,7 +1,8 @@
 use Rattle.std.proofs.Common.{◌≡◌, ap, ◌∙◌, List, ℕ}
 use Rattle.udsnorm.specs.Values.{shown_name}
 use Rattle.udsnorm.specs.declared.pair_jobs.PairJob.{PairJob}
-use Rattle.udsnorm.proofs.Done.{given_by, opened_as, ran_named_two, two_files_as}
+use Rattle.udsnorm.proofs.Done.{ran_named_two}
+use Rattle.udsnorm.proofs.OpenedFiles.{given_by, opened_as, two_files_as}
 use Rattle.udsnorm.proofs.run_opened.Goals as goal
 
 same_names : (job : PairJob) {path other left right : List ℕ} → path ≡ left → other ≡ right → shown_name job path other ≡ shown_name job left right

@@ -3,6 +3,8 @@ use Rattle.udsnorm.proofs.serve.Goals as goal
 pub returns : goal.returns
 returns g c = record {
   served = record {
+    seen = c.seen_profile-profile.result;
+    profile = c.seen_profile-profile.ensures;
     asked = c.run_words-run.result.asked;
     known = c.run_words-run.result.end.known;
     begun = c.tell_awaited.new.err;

@@ -6,6 +6,7 @@ use Rattle.trace_report.specs.Kept.{KeptSessionsValue}
 use Rattle.trace_pair.specs.Page.{cause_of_pair}
 use Rattle.trace_report.specs.declared.cause.RefusalCause.{RefusalCause}
 use Rattle.trace_run.specs.Script.{GlimpseValue}
+use Rattle.uds_rules.specs.Rule.{RuleValue}
 use Rattle.udsnorm.specs.Commands.{TextOfCompared, pair_kept, pair_of, text_of_compared}
 use Rattle.udsnorm.specs.declared.pair_jobs.PairAnswer.{PairAnswer}
 
@@ -15,9 +16,9 @@ answer_of (Ok compared) = Ok (pair_of compared)
 answer_of (Err fault) = Err fault
 
 -- what is written of it
-abbrev pub text_of_answer : Bool → TextOfCompared → Result Compared CompareFault → List ℕ
-text_of_answer strict text (Ok compared) = text_of_compared strict text compared
-text_of_answer strict text (Err fault) = []
+abbrev pub text_of_answer : Bool → TextOfCompared → List RuleValue → Result Compared CompareFault → List ℕ
+text_of_answer strict text rules (Ok compared) = text_of_compared strict text rules compared
+text_of_answer strict text rules (Err fault) = []
 
 -- both logs were accepted, and one of them means an item
 abbrev pub HasItems : Result Compared CompareFault → Type 0

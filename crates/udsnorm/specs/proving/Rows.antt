@@ -10,7 +10,7 @@ use Rattle.udsnorm.specs.declared.commands.CommandRow.{CommandRow}
 
 -- the rule of an option or a file
 abbrev pub rule_of_argument : Argument → Rule
-rule_of_argument (argument.Identifier name default help) = option name.now default.now
+rule_of_argument (argument.Text name value help) = option name.now
 rule_of_argument (argument.Limit default help) = limit default.now
 rule_of_argument (argument.Flag name help) = flag name.now
 rule_of_argument (argument.File name is_required help) = file name.now is_required

@@ -1,4 +1,5 @@
--- Eight bytes of the message with a control byte over the first are what the definition pads, where there is nothing to pad.
+-- Eight bytes of the message with a control byte over the first are what the definition pads, where there is nothing to
+-- pad.
 use Rattle.std.proofs.Common.{arith, ◌∙◌, ap, drop, length}
 use Rattle.isotp_segment.specs.CanonicalFrames.{padded, place_of}
 use Rattle.isotp_segment.proofs.Padding.{full_frame_at}

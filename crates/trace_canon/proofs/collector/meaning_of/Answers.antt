@@ -13,7 +13,7 @@ returns g c =
     record {
       ran = record {
         answer = λ log agrees.
-            meaning_given settings log session.meaning session.summary (c.in_ok-session.ensures.ran.answer log agrees);
+            meaning_given settings log session.meaning session.summary (c.in_ok-session.ensures.ran.answer log agrees).accepted;
         way =
             way_of_value g.R.Source (reading_to_collect MESSAGE_LIMIT settings) _ _ session _ c.in_ok-session.ensures.ran.way;
         never_write = tt;

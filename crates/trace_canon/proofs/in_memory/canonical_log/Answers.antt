@@ -11,11 +11,11 @@ returns c = record {
       let ran = c.normalise-answer.ensures in
       let here =
       ran_in_memory c.normalise-answer.result c.args.log.now c.into_inner.result.items c.new-2.result c.normalise-answer.new.source c.new-2.ensures
-      ran.read.gave ran.read.ended ran.read.failed (ap (λ w. w.taken) c.new-target.ensures)
+      ran.way.read.gave ran.way.read.ended ran.way.read.failed (ap (λ w. w.taken) c.new-target.ensures)
       (ap (λ w. w.inner.items) c.new-target.ensures ∙ c.new.ensures.items) ran.wrote.took
       (ap (λ v. v.items) (sym c.into_inner.ensures)) in
       gathered _ _ (λ summary. record { text = c.into_inner.result; summary = summary }) c.normalise-answer.result c.counted_text.result
       (canonical_in_memory MESSAGE_LIMIT c.args.config.now c.args.log.now _ _ _ _ _ _ c.normalise-answer.result here
-      (ran.memory c.args.log.now here.agrees) (ran.some c.args.log.now here.agrees) (ran.answer c.args.log.now here.agrees))
+      (ran.way.memory c.args.log.now here.agrees) (ran.some c.args.log.now here.agrees) (ran.answer c.args.log.now here.agrees))
       c.counted_text.ensures.answer;
 }

@@ -1,6 +1,7 @@
 -- What the call wrote at its end is the text, and a failed write refused memory.
 use Rattle.std.proofs.Common.{ap, sym, ◌∙◌}
 use Rattle.trace_canon.specs.Finding.{text_of_credit_lines}
+use Rattle.trace_canon.specs.declared.credit_lines.CreditStyle.TheVariants.{Lines}
 use Rattle.trace_canon.proofs.GatheredTexts.{gathered, ran_in_memory}
 use Rattle.trace_canon.proofs.InMemories.{written_in_memory}
 use Rattle.trace_canon.proofs.in_memory.credit_lines.Goals as goal
@@ -8,7 +9,7 @@ use Rattle.trace_canon.proofs.in_memory.credit_lines.Goals as goal
 pub returns : goal.returns
 returns c = record {
   answer =
-      let of = text_of_credit_lines c.args.notation c.args.config.now in
+      let of = text_of_credit_lines (Lines c.args.notation) c.args.config.now in
       let ran = c.find-answer.ensures.ran in
       let here =
       ran_in_memory c.find-answer.result c.args.log.now c.into_inner.result.items c.new-2.result c.find-answer.new.source c.new-2.ensures

@@ -1,11 +1,12 @@
 -- What the call wrote is the text; each log has one, so memory may be refused to any.
 use Rattle.std.proofs.Common.{ap, sym, ◌∙◌}
 use Rattle.isotp_receive.specs.declared.TheConstants.{MESSAGE_LIMIT}
+use Rattle.trace_log.specs.Settings.{without_rules}
 use Rattle.trace_canon.specs.ExplainScript.{explain_script}
 use Rattle.trace_canon.specs.InMemory.{NeedsMemoryForExplanation}
 use Rattle.trace_run.specs.Script.{needs_none, says_no_refusal}
 use Rattle.trace_canon.proofs.GatheredTexts.{gathered, ran_in_memory}
-use Rattle.trace_canon.proofs.InMemories.{said_in_memory}
+use Rattle.trace_canon.proofs.InMemories.{explanation_in_memory, said_in_memory}
 use Rattle.trace_canon.proofs.in_memory.explanation.Goals as goal
 
 pub returns : goal.returns
@@ -19,8 +20,9 @@ returns c = record {
       (ap (λ w. w.inner.items) c.new-target.ensures ∙ c.new.ensures.items) ran.wrote.took
       (ap (λ v. v.items) (sym c.into_inner.ensures)) in
       gathered _ _ (λ summary. record { text = c.into_inner.result; summary = summary }) c.explain-answer.result c.counted_text.result
+      (explanation_in_memory c.args.notation MESSAGE_LIMIT c.args.config.now c.args.log.now _ c.explain-answer.result
       (said_in_memory script.of_frame script.at_the_end says_no_refusal needs_none NeedsMemoryForExplanation MESSAGE_LIMIT
-      c.args.config.now c.args.log.now _ _ _ _ _ _ c.explain-answer.result here (λ _. tt) (λ _. tt)
-      (ran.answer c.args.log.now here.agrees))
+      (without_rules c.args.config.now) c.args.log.now _ _ _ _ _ _ c.explain-answer.result here (λ _. tt) (λ _. tt)
+      (ran.answer c.args.log.now here.agrees)))
       c.counted_text.ensures.answer;
 }

@@ -10,7 +10,7 @@ use Rattle.trace_canon.proofs.in_memory.item_list.Goals as goal
 pub returns : goal.returns
 returns c = record {
   answer =
-      let of = text_over_items (list_text c.args.style) MESSAGE_LIMIT c.args.config.now in
+      let of = text_over_items (list_text c.args.config.now.rules c.args.style) MESSAGE_LIMIT c.args.config.now in
       let ran = c.list-answer.ensures.ran in
       let here =
       ran_in_memory c.list-answer.result c.args.log.now c.into_inner.result.items c.new-2.result c.list-answer.new.source c.new-2.ensures

@@ -11,7 +11,7 @@ use Rattle.trace_canon.proofs.in_memory.message_lines.Goals as goal
 pub returns : goal.returns
 returns c = record {
   answer =
-      let script = messages_script c.args.notation MESSAGE_LIMIT in
+      let script = messages_script c.args.notation MESSAGE_LIMIT c.args.config.now.rules in
       let ran = c.messages-answer.ensures.ran.run in
       let here =
       ran_in_memory c.messages-answer.result c.args.log.now c.into_inner.result.items c.new-2.result c.messages-answer.new.source c.new-2.ensures

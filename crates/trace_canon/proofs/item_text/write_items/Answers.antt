@@ -14,7 +14,7 @@ returns g c =
     record {
       ran =
           text_at_end g.R.Source g.W.Target of (GivesSession MESSAGE_LIMIT settings) _ _ _ session session.meaning
-          session.summary _ _ (λ log is. is) c.in_ok-session.ensures.ran c.in_ok-print.ensures;
+          session.summary _ _ (λ log is. is.accepted) c.in_ok-session.ensures.ran c.in_ok-print.ensures;
     }
 
 pub returns-in_err-session : goal.returns-in_err-session
@@ -36,5 +36,5 @@ returns-in_err-print g c =
     (record {
       ran =
           front_at_end g.R.Source g.W.Target of (GivesSession MESSAGE_LIMIT settings) _ _ _ session session.meaning
-          session.summary _ _ (λ log is. is) (λ log. tt) c.in_ok-session.ensures.ran c.in_err-print.ensures;
+          session.summary _ _ (λ log is. is.accepted) (λ log. tt) c.in_ok-session.ensures.ran c.in_err-print.ensures;
     })

@@ -29,5 +29,10 @@ returns-clause-recording g c = λ log agrees. recording_again c.args.config.now 
 pub returns-clause-certificate : goal.returns-clause-certificate
 returns-clause-certificate g c = λ log agrees. answer_is_certificate c.args.config.now log _ c.run.result _ _ (returns-clause-answer g c log agrees)
 
+pub returns-clause-way : goal.returns-clause-way
+returns-clause-way g c =
+    let ran = c.run.ensures.ran in
+    record { near = ran.near; memory = ran.memory; read = ran.read }
+
 pub returns-clause-some : goal.returns-clause-some
 returns-clause-some g c = λ log agrees wrong. unwritten_some c.args.config.now log _ c.run.result _ _ wrong (c.run.ensures.ran.answer log agrees)

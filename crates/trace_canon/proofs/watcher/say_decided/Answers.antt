@@ -16,7 +16,7 @@ returns-clause-says g c = on_ok_weaker c.take.result (λ puts M decides judged.
       (λ few. (
         number_is ∙ (all.lines few).0,
         subst
-            (λ o. g.S.TextSink.says c.args.out.now (list_text_from c.args.style c.args.number.now put.0) o) (sym out_is)
+            (λ o. g.S.TextSink.says c.args.out.now (list_text_from c.args.rules.now c.args.style c.args.number.now put.0) o) (sym out_is)
             (all.lines few).1,
       )),
     )) c.take.ensures.puts

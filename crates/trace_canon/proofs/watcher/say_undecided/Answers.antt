@@ -14,6 +14,6 @@ returns g c = λ M decides few.
     let number_is = c.number-1.given.1 (sym all.same_number) in (
       number_is ∙ (all.lines few).0,
       subst
-          (λ o. g.S.TextSink.says c.args.out.now (list_text_from c.args.style c.args.number.now (undecided M)) o) (sym out_is)
+          (λ o. g.S.TextSink.says c.args.out.now (list_text_from c.args.rules.now c.args.style c.args.number.now (undecided M)) o) (sym out_is)
           (all.lines few).1,
     )

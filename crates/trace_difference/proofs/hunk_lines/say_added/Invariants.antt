@@ -7,5 +7,5 @@ use Rattle.trace_difference.proofs.hunk_lines.say_added.Given as goal
 abbrev pub invariant-added : goal.invariant-added
 invariant-added g l = record {
   forward : l.from ≤ l.place;
-  said : g.S.TextSink.says l.initial.out (flat_map line_text (added_lines l.items l.from (l.place - l.from))) l.out;
+  said : g.S.TextSink.says l.initial.out (flat_map line_text (added_lines l.rules l.items l.from (l.place - l.from))) l.out;
 }

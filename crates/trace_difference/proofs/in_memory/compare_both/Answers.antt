@@ -1,6 +1,6 @@
 use Rattle.isotp_receive.specs.declared.TheConstants.{MESSAGE_LIMIT}
 use Rattle.trace_canon.proofs.Promises.{agrees_in_memory}
-use Rattle.trace_difference.proofs.InMemories.{compared_in_memory}
+use Rattle.trace_difference.proofs.DifferencesInMemory.{compared_in_memory}
 use Rattle.trace_difference.proofs.in_memory.compare_both.Goals as goal
 
 pub returns : goal.returns

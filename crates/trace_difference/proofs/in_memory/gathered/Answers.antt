@@ -1,6 +1,6 @@
 use Rattle.std.proofs.Common.{ap, sym, ◌∙◌}
 use Rattle.trace_canon.proofs.Promises.{taken_is_gathered}
-use Rattle.trace_difference.proofs.InMemories.{text_in_memory}
+use Rattle.trace_difference.proofs.DifferencesInMemory.{text_in_memory}
 use Rattle.trace_difference.proofs.in_memory.gathered.Goals as goal
 
 pub returns-in-Ok-clause-text : goal.returns-in-Ok-clause-text

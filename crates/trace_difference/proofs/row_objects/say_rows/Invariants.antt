@@ -8,6 +8,6 @@ invariant-rows g l = record {
   few : l.change_number ≤ l.row-index;
   left_small : l.left_before ≤ l.row-index;
   right_small : l.right_before ≤ l.row-index;
-  left : IsLeft g.S.TextSink.says l.initial.out (rows_text l.left.items.now l.right.items.now l.change_number l.behind_change l.left_before l.right_before (drop l.row-index l.rows))
-      (rows_text l.left.items.now l.right.items.now 0 false 0 0 l.rows) l.out;
+  left : IsLeft g.S.TextSink.says l.initial.out (rows_text l.rules l.left l.right l.change_number l.behind_change l.left_before l.right_before (drop l.row-index l.rows))
+      (rows_text l.rules l.left l.right 0 false 0 0 l.rows) l.out;
 }

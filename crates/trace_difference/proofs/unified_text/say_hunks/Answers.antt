@@ -2,7 +2,7 @@ use Rattle.std.proofs.Common.{◌+◌, arith, ap, drop, get_or, refl}
 use Rattle.std.proofs.lemmas.List.{drop_all, drop_more, take_rest}
 use Rattle.trace_difference.specs.Unified.{hunk_text}
 use Rattle.trace_difference.proofs.HunkSteps.{hunks_left}
-use Rattle.trace_difference.proofs.HunkTurns.{turn-at, turn-before, turn-in}
+use Rattle.trace_difference.proofs.HunksLeft.{turn-at, turn-before, turn-in}
 use Rattle.text_parts.proofs.Promises.{none-said, said-whole, same-rest}
 use Rattle.trace_difference.proofs.unified_text.say_hunks.Goals as goal
 use Rattle.trace_difference.proofs.unified_text.say_hunks.Goals.{then-shown-gt0, else-shown-gt0+then-begins_hunk, else-shown-gt0+else-begins_hunk}
@@ -16,7 +16,7 @@ rows-init g c = record {
 
 pub rows-preserved : goal.rows-preserved
 rows-preserved g c =
-    let text = hunk_text c.args.left.items.now c.args.right.items.now in
+    let text = hunk_text c.args.rules.now c.args.left.now c.args.right.now in
     let rows = c.args.rows.now in
     let k = c.rows.k in
     let at = drop_more rows k _ c.rows-test.true in
@@ -43,6 +43,6 @@ rows-preserved g c =
 
 pub returns : goal.returns
 returns g c =
-    let text = hunk_text c.args.left.items.now c.args.right.items.now in
+    let text = hunk_text c.args.rules.now c.args.left.now c.args.right.now in
     said-whole g.S.TextSink.says c.args.out.now c.rows.out _
     (same-rest g.S.TextSink.says c.args.out.now c.rows.out _ _ _ (ap (hunks_left text c.rows.shown c.rows.left_before c.rows.right_before) (drop_all c.rows.k c.args.rows.now c.rows-test.false)) c.rows.invariant.left)

@@ -10,6 +10,6 @@ abbrev pub invariant-rows : goal.invariant-rows
 invariant-rows g l = record {
   left_small : l.left_before ≤ l.k;
   right_small : l.right_before ≤ l.k;
-  left : IsLeft g.S.TextSink.says l.initial.out (hunks_left (hunk_text l.left.items.now l.right.items.now) l.shown l.left_before l.right_before (drop l.k l.rows))
-      (flat_map (hunk_text l.left.items.now l.right.items.now) (hunks l.rows)) l.out;
+  left : IsLeft g.S.TextSink.says l.initial.out (hunks_left (hunk_text l.rules l.left l.right) l.shown l.left_before l.right_before (drop l.k l.rows))
+      (flat_map (hunk_text l.rules l.left l.right) (hunks l.rows)) l.out;
 }

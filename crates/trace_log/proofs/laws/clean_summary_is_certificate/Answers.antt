@@ -1,3 +1,4 @@
+use Rattle.trace_log.proofs.Certificates.{certificate_knows_no_rules}
 use Rattle.trace_log.proofs.ReadAgain.{clean_summary_is_certificate, summary_certifies}
 use Rattle.trace_log.proofs.laws.clean_summary_is_certificate.Goals as goal
 
@@ -6,3 +7,6 @@ returns-clause-lines c = clean_summary_is_certificate
 
 pub returns-clause-log : goal.returns-clause-log
 returns-clause-log c = summary_certifies
+
+pub returns-clause-rules : goal.returns-clause-rules
+returns-clause-rules c = certificate_knows_no_rules

@@ -15,7 +15,7 @@ returns-else-count-eq1 g c =
     let count = c.args.count in
     let several : (c.args.count == 1) ≡ false = ne_eqb c.args.count 1 c.if-count-eq1.false in
     subst (λ (one : Bool). g.S.TextSink.says c.args.out.now
-    (if one then text_if_some item_title (slice_get items first) ++ text_if_some outcome_note (slice_get items first)
-    else decimal count ++ codes " items, from " ++ text_if_some item_title (slice_get items first) ++ codes " to " ++ text_if_some item_title (slice_get items (first + count - 1)))
+    (if one then text_if_some (item_title c.args.rules.now) (slice_get items first) ++ text_if_some outcome_note (slice_get items first)
+    else decimal count ++ codes " items, from " ++ text_if_some (item_title c.args.rules.now) (slice_get items first) ++ codes " to " ++ text_if_some (item_title c.args.rules.now) (slice_get items (first + count - 1)))
     c.say-else-count-eq1.new.out)
     (sym several) (rw (c.item_at-item.ensures, c.item_at-last.ensures, c.saturating_sub.ensures) at c.say-else-count-eq1.ensures)

@@ -2,7 +2,8 @@
 use Rattle.std.proofs.Common.{◌≡◌, ℕ, ◌-◌, ◌<◌, ◌^◌, List, None, length, take, drop, max, min, ap, subst, ◌∙◌, arith}
 use Rattle.std.specs.Prelude.{◌==◌}
 use Rattle.trace_report.specs.Rows.{RowValue}
-use Rattle.trace_pair.specs.FirstDifference.{chart_end, chart_from, chart_rows, chart_to, items_end, items_left, items_more, rows_more, rows_text}
+use Rattle.pair_words.specs.ChartWords.{chart_end, items_end}
+use Rattle.trace_pair.specs.FirstDifference.{chart_from, chart_rows, chart_to, items_left, items_more, rows_more, rows_text}
 use Rattle.trace_pair.specs.proving.Marks.{charted_of}
 use Rattle.trace_pair.proofs.ChartPlaces.{more-are, rows-are}
 use Rattle.trace_pair.proofs.chart.say_chart.Goals as goal

@@ -23,7 +23,7 @@ rows-preserved g c =
     c.rows.front c.rows.last c.last_begun-last.result c.rows.at row (option_map marked_of c.found_item-found.result.marked) c.begins_body.result
     c.found_item-found.result.is_other c.rows.out c.say.new.out c.say_row.new.out c.rows-test.true there
     (c.found_item-found.ensures.other ∙ ap (is_other chart) c.number_of.ensures) (c.found_item-found.ensures.marks ∙ ap (marks_at chart) c.number_of.ensures)
-    c.begins_body.ensures c.last_begun-last.ensures c.rows.invariant c.say.ensures c.say_row.ensures
+    c.begins_body.ensures c.last_begun-last.ensures c.rows.invariant c.say.ensures (rw (c.rules-rules.ensures) at c.say_row.ensures)
 
 pub returns-in_default : goal.returns-in_default
 returns-in_default g c =

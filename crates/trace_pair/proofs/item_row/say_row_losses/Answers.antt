@@ -1,7 +1,7 @@
 -- What is missing is that of the item, where the row has one.
 use Rattle.std.proofs.Common.{◌≡◌, ℕ, Bool, true, List, [], sym, subst, ◌∙◌}
 use Rattle.std.specs.Prelude.{if◌then◌else◌}
-use Rattle.trace_pair.specs.Logs.{has_item}
+use Rattle.pair_words.specs.Logs.{has_item}
 use Rattle.trace_pair.specs.Losses.{losses_of, losses_text}
 use Rattle.trace_pair.proofs.item_row.say_row_losses.Goals as goal
 

@@ -3,7 +3,7 @@ use Rattle.std.proofs.Common.{◌≡◌, ◌≤◌, ◌+◌, length, drop}
 use Rattle.std.specs.Prelude.{◌||◌}
 use Rattle.std.specs.List.{list_any}
 use Rattle.shown_rows.specs.Changes.{changes, changes_from}
-use Rattle.trace_pair.specs.declared.log.PairLog.TheVariants.{A, B}
+use Rattle.pair_words.specs.declared.log.PairLog.TheVariants.{A, B}
 use Rattle.trace_pair.specs.Verdict.{is_lossy, lossy_count}
 use Rattle.trace_pair.proofs.lossy_changes.losses_at_changes.Given as goal
 

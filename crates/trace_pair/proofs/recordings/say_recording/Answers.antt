@@ -11,4 +11,4 @@ returns g c =
     let session = c.args.session.now in
     let many : c.item_count.result ≡ length (values_in session) =
     c.item_count.ensures.value ∙ ap (λ (rows : List RowValue). length (items_in rows)) c.rows.ensures ∙ sym (length-map (items_in session.rows) item_value) in
-    rw (c.summary-summary.ensures, many, c.first_time.ensures, c.last_time.ensures) at c.say.ensures
+    rw (c.rules.ensures, c.summary-summary.ensures, many, c.first_time.ensures, c.last_time.ensures) at c.say.ensures

@@ -1,5 +1,6 @@
 -- A row is said as its variant.
-use Rattle.std.proofs.Common.{◌≡◌, ℕ, Bool, true, refl, ap, sym, subst, ◌∙◌}
+use Rattle.std.proofs.Common.{◌≡◌, ℕ, List, Bool, true, refl, ap, sym, subst, ◌∙◌}
+use Rattle.uds_rules.specs.Rule.{RuleValue}
 use Rattle.trace_report.specs.Chart.{row_text}
 use Rattle.trace_report.specs.MissingRows.{missing_row}
 use Rattle.trace_report.specs.declared.row.Missing.{Missing}
@@ -9,15 +10,15 @@ use Rattle.trace_report.proofs.chart.say_row.Goals as goal
 
 pub returns-in-Message : goal.returns-in-Message
 returns-in-Message g c =
-    subst (λ text. g.S.TextSink.says c.args.out.now text c.say_message.new.out) (ap (λ row. row_text c.args.brief c.args.origin (row_of row)) (sym c.in-Message.is)) c.say_message.ensures
+    subst (λ text. g.S.TextSink.says c.args.out.now text c.say_message.new.out) (ap (λ row. row_text c.args.rules.now c.args.brief c.args.origin (row_of row)) (sym c.in-Message.is)) c.say_message.ensures
 
-missing-text : (brief : Bool) (origin : ℕ) (what : Missing) → missing_row true origin what ≡ row_text brief origin (missing_of what)
-missing-text brief origin (missing.NoAnswer number silent) = refl
-missing-text brief origin (missing.Dropped place d own why) = refl
-missing-text brief origin (missing.Ended place end) = refl
-missing-text brief origin (missing.Unfinished d line len) = refl
+missing-text : (rules : List RuleValue) (brief : Bool) (origin : ℕ) (what : Missing) → missing_row true origin what ≡ row_text rules brief origin (missing_of what)
+missing-text rules brief origin (missing.NoAnswer number silent) = refl
+missing-text rules brief origin (missing.Dropped place d own why) = refl
+missing-text rules brief origin (missing.Ended place end) = refl
+missing-text rules brief origin (missing.Unfinished d line len) = refl
 
 pub returns-in-Missing : goal.returns-in-Missing
 returns-in-Missing g c =
     subst (λ text. g.S.TextSink.says c.args.out.now text c.say_missing_row.new.out)
-    (missing-text c.args.brief c.args.origin c.in-Missing.missing ∙ ap (λ row. row_text c.args.brief c.args.origin (row_of row)) (sym c.in-Missing.is)) c.say_missing_row.ensures
+    (missing-text c.args.rules.now c.args.brief c.args.origin c.in-Missing.missing ∙ ap (λ row. row_text c.args.rules.now c.args.brief c.args.origin (row_of row)) (sym c.in-Missing.is)) c.say_missing_row.ensures

@@ -11,8 +11,9 @@ use Rattle.trace_report.proofs.in_memory.page.Goals as goal
 pub returns : goal.returns
 returns c =
     let title = page_title c.args.style.now c.args.name.now c.args.config.now in
-    let script = report_script title MESSAGE_LIMIT in
-    let refusal = refused_text title MESSAGE_LIMIT (record { first = []; is_over = c.report-answer.new.source.is_over }) in
+    let script = report_script title MESSAGE_LIMIT c.args.config.now.rules in
+    let refusal =
+    refused_text title MESSAGE_LIMIT c.args.config.now.rules (record { first = []; is_over = c.report-answer.new.source.is_over }) in
     let ran = c.report-answer.ensures.ran.run in
     let here =
     ran_in_memory c.report-answer.result c.args.log.now c.into_inner.result.items c.new-2.result c.report-answer.new.source

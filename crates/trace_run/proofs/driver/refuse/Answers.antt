@@ -11,8 +11,9 @@ pub returns : goal.returns
 returns g c = λ machine_start settings meanings received judged stands start said carried.
     let why = c.args.why in
     let T = trace settings meanings in
-    let refused = λ (summary : Summary) (why : Fault). g.M.Machine.refusal machine_start (glimpse_value c.args.glimpse) T summary why in
+    let refused = λ (summary : Summary) (why : Fault). g.M.Machine.refusal settings.rules machine_start
+    (glimpse_value c.args.glimpse) T summary why in
     let counted = c.summary-summary.ensures settings [] meanings received refl judged in
     subst (λ s. EndsAs g.W.Target why start (said ++ refused s why) c.settle_before.result c.settle_before.new.target) counted
     (c.settle_before.ensures start (said ++ refused c.summary-summary.result why)
-    (c.tell_refusal.ensures.says machine_start T stands start said carried))
+    (c.tell_refusal.ensures.says settings.rules machine_start T stands start said carried))

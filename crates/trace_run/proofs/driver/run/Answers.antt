@@ -1,5 +1,5 @@
 -- A run is what was said of its lines, and how it ended: each part of `Ran` is read off one of the two.
-use Rattle.std.proofs.Common.{◌≡◌, List, arith, subst, Option, Err, ℕ}
+use Rattle.std.proofs.Common.{◌≡◌, List, arith, refl, subst, Option, Err, ℕ}
 use Rattle.can_log.specs.declared.frame.Stamped.{Stamped}
 use Rattle.trace_log.specs.Answers.{ReadsWhile}
 use Rattle.trace_log.specs.Devices.{AgreesWith, bytes_given}
@@ -7,7 +7,7 @@ use Rattle.trace_log.specs.Feeding.{TakesFront}
 use Rattle.trace_log.specs.Summing.{ends_in_line_feed}
 use Rattle.isotp_receive.specs.declared.TheConstants.{MESSAGE_LIMIT}
 use Rattle.trace_log.proofs.Promises.{some_log, when_ok}
-use Rattle.trace_run.specs.Ran.{StopsNothingWithin}
+use Rattle.trace_run.specs.Stopping.{StopsNothingWithin}
 use Rattle.trace_run.specs.Script.{GlimpseValue, glimpse_of}
 use Rattle.trace_run.specs.declared.receiver.Receiver.{Receiver}
 use Rattle.trace_run.specs.proving.Ending.{EndsSaying, GivesUp}
@@ -34,6 +34,7 @@ begun g c = record {
         machine_is = c.start.ensures.machine;
         stands_at_start = c.requires.machine;
         judged = c.start.ensures.judged;
+        none_left_out = c.start.ensures.none_left_out;
         well = c.start.ensures.well;
         blank = c.start.ensures.blank;
       }) c.requires.target;
@@ -43,9 +44,10 @@ begun g c = record {
 near : (g : Over) (c : After-start-receiver g) (log : List ℕ) (given failures failures_now : ℕ)
     → ReadsWhile (TakesFront (of_pairs (HasTaken g.M.Machine g.W.Target)) (c.start-receiver.result, c.args.target.now) log)
     given failures failures_now
-    → ReadsWhile (StopsNothingWithin (g.M.Machine.script c.args.machine).strict MESSAGE_LIMIT c.args.config.now log) given failures failures_now
+    → ReadsWhile (StopsNothingWithin (g.M.Machine.script c.args.config.now.rules c.args.machine).strict MESSAGE_LIMIT c.args.config.now log)
+    given failures failures_now
 near g c log given failures failures_now reads =
-    reads_near c.args.config.now log (g.M.Machine.script c.args.machine).strict
+    reads_near c.args.config.now log (g.M.Machine.script c.args.config.now.rules c.args.machine).strict
     (λ meanings now taken. (taken c.args.config.now c.args.machine (begun g c).is).1.within) reads
 
 -- how the run ended on a fault, by what was seen of its source
@@ -102,11 +104,12 @@ returns-in-Err g c =
 ends : (g : Over) (c : After-finish g) (log : List ℕ) (meanings : List (Option Stamped)) → c.in-Ok.ends_in_line_feed ≡ ends_in_line_feed log
     → HasTaken g.M.Machine g.W.Target (run_state (c.start-receiver.result, c.args.target.now)) meanings
     (run_state (c.feed_lines.new.taker, c.feed_lines.new.device))
-    → EndsSaying g.M.Machine g.W.Target (start_with c.args.machine c.args.target.now) c.args.config.now log meanings
+    → EndsSaying g.M.Machine g.W.Target (start_with c.args.config.now.rules c.args.machine c.args.target.now) c.args.config.now log meanings
     c.finish.result c.finish.new.target
 ends g c log meanings feed taken =
     let so_far = taken c.args.config.now c.args.machine (begun g ((goal.at.returns-in-Ok g c).After-start-receiver)).is in
-    c.finish.ensures.ends (start_with c.args.machine c.args.target.now) c.args.config.now log meanings so_far.0.lines feed so_far.1
+    c.finish.ensures.ends (start_with c.args.config.now.rules c.args.machine c.args.target.now) c.args.config.now log meanings
+    so_far.0.lines feed refl so_far.1
 
 pub returns-in-Ok : goal.returns-in-Ok
 returns-in-Ok g c =
@@ -115,7 +118,7 @@ returns-in-Ok g c =
     let settings = c.args.config.now in
     let run : Begun M W = begun g ((goal.at.returns-in-Ok g c).After-start-receiver) in
     let now : RunState g.row.M.Denot g.row.W.Denot = run_state (c.feed_lines.new.taker, c.feed_lines.new.device) in
-    let begins = start_with c.args.machine c.args.target.now in
+    let begins = start_with settings.rules c.args.machine c.args.target.now in
     let given = bytes_given g.R.Source c.args.source.now c.feed_lines.new.source in
     let glimpse = glimpse_of g.R.Source c.feed_lines.new.source in
     let result = c.finish.result in

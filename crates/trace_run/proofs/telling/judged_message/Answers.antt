@@ -1,11 +1,11 @@
--- The judge has taken the one message that the frame told.
-use Rattle.std.proofs.Common.{◌++◌, ap, subst, sym}
-use Rattle.isotp_receive.specs.EventSeen.{seen_verdict}
-use Rattle.isotp_receive.specs.Verdict.{told_message}
+-- The judge has taken the one message that is shown.
+use Rattle.std.proofs.Common.{◌++◌, subst, sym}
+use Rattle.std.specs.Option.{option_map}
 use Rattle.uds_exchange.specs.Judging.{IsJudgeOf}
+use Rattle.uds_rules.specs.Under.{sent_as}
 use Rattle.trace_run.proofs.telling.judged_message.Goals as goal
 
-pub returns-in-Message-clause-next : goal.returns-in-Message-clause-next
-returns-in-Message-clause-next c = λ M few so_far.
-    subst (λ told. IsJudgeOf (M ++ told_message c.args.dir told) c.take.new.self) (ap seen_verdict (sym c.in-Message.is))
+pub returns-in-Some-clause-next : goal.returns-in-Some-clause-next
+returns-in-Some-clause-next c = λ M few so_far.
+    subst (λ shown. IsJudgeOf (M ++ sent_as c.args.dir (option_map (λ bytes. bytes.now) shown)) c.take.new.self) (sym c.in-Some.is)
     (record { counted = c.take.ensures.next M few so_far.counted; sides = c.take.ensures.sides M so_far.sides })

@@ -14,7 +14,8 @@ items-preserved g c =
     elim c.match-item.branch [
       | in-Some w ↦
           rw w.out-is
-          (subst (λ text. g.S.TextSink.says c.args.out.now text w.say_item_line.new.out) (sym (more_lines c.args.style its c.items.i _ (sym w.in-Some.ensures)))
+          (subst (λ text. g.S.TextSink.says c.args.out.now text w.say_item_line.new.out)
+          (sym (more_lines c.args.rules.now c.args.style its c.items.i _ (sym w.in-Some.ensures)))
           (g.met.S.TextSink.onward _ _ _ _ _ c.items.invariant w.say_item_line.ensures))
       | in_default w ↦ absurd (is_there its c.items.i (omega (arith, c.len-i-end.ensures)) (sym w.in_default.ensures))
     ]
@@ -23,4 +24,4 @@ pub returns : goal.returns
 returns g c =
     let its = c.args.meaning.now in
     let whole = take_all c.items.i its (omega (arith, c.len-i-end.ensures, c.items-test.false)) in
-    subst (λ text. g.S.TextSink.says c.args.out.now text c.items.out) (ap (list_text c.args.style) whole) c.items.invariant
+    subst (λ text. g.S.TextSink.says c.args.out.now text c.items.out) (ap (list_text c.args.rules.now c.args.style) whole) c.items.invariant

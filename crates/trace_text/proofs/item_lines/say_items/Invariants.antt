@@ -4,4 +4,4 @@ use Rattle.trace_text.specs.ItemLines.{list_text}
 use Rattle.trace_text.proofs.item_lines.say_items.Given as goal
 
 abbrev pub invariant-items : goal.invariant-items
-invariant-items g l = g.S.TextSink.says l.initial.out (list_text l.style (take l.i l.meaning)) l.out
+invariant-items g l = g.S.TextSink.says l.initial.out (list_text l.rules l.style (take l.i l.meaning)) l.out

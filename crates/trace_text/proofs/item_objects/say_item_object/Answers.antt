@@ -6,5 +6,6 @@ use Rattle.trace_text.proofs.item_objects.say_item_object.Goals as goal
 
 pub returns : goal.returns
 returns g c =
-    subst (λ text. g.S.TextSink.says c.args.out.now text c.say_closed.new.out) (object_is c.args.numbering c.args.number (item_value c.args.item))
+    subst (λ text. g.S.TextSink.says c.args.out.now text c.say_closed.new.out)
+    (object_is c.args.rules.now c.args.numbering c.args.number (item_value c.args.item))
     c.say_closed.ensures

@@ -9,5 +9,6 @@ returns-then-number-lt1000000000000 g c =
     let n = c.args.number in
     subst (λ text. g.S.TextSink.says c.args.out.now text c.say_number_before.new.out)
     (ap₂ (λ middle rest. (decimal (n / 100000000) ++ middle) ++ rest) c.four_decimals-middle.ensures c.four_decimals-last.ensures
-    ∙ and_eight n (n / 100000000) (n % 100000000 / 10000) (n % 100000000 % 10000) (omega (arith, c.requires)) (omega arith) refl (omega arith) (omega arith))
+    ∙ and_eight n (n / 100000000) (n % 100000000 / 10000) (n % 100000000 % 10000) (omega (arith, c.requires)) (omega arith) refl (omega arith)
+    (omega arith))
     c.say_number_before.ensures

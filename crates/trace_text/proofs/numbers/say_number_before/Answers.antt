@@ -17,11 +17,13 @@ returns-then-number-lt100 g c =
 pub returns-then-number-lt1000 : goal.returns-then-number-lt1000
 returns-then-number-lt1000 g c =
     subst (λ text. g.S.TextSink.says c.args.out.now text c.put_three-then-number-lt1000.new.self)
-    (ap (λ f. f ++ c.args.second.now ++ c.args.third.now) (ap (λ four. take 3 (drop 1 four)) c.four_decimals.ensures ∙ three_digits c.args.number (omega arith) (omega arith)))
+    (ap (λ f. f ++ c.args.second.now ++ c.args.third.now) (ap (λ four. take 3 (drop 1 four)) c.four_decimals.ensures
+    ∙ three_digits c.args.number (omega arith) (omega arith)))
     c.put_three-then-number-lt1000.ensures
 
 pub returns-else-number-lt1000 : goal.returns-else-number-lt1000
 returns-else-number-lt1000 g c =
     subst (λ text. g.S.TextSink.says c.args.out.now text c.put_three-else-number-lt1000.new.self)
-    (ap (λ f. f ++ c.args.second.now ++ c.args.third.now) (c.four_decimals-else-number-lt1000.ensures ∙ four_digits c.args.number (omega arith) (omega (arith, c.requires))))
+    (ap (λ f. f ++ c.args.second.now ++ c.args.third.now) (c.four_decimals-else-number-lt1000.ensures
+    ∙ four_digits c.args.number (omega arith) (omega (arith, c.requires))))
     c.put_three-else-number-lt1000.ensures

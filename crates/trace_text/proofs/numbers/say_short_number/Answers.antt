@@ -15,9 +15,11 @@ returns-then-number-lt100 g c =
 pub returns-then-number-lt1000 : goal.returns-then-number-lt1000
 returns-then-number-lt1000 g c =
     subst (λ text. g.S.TextSink.says c.args.out.now text c.put_whole-then-number-lt1000.new.self)
-    (ap (λ four. take 3 (drop 1 four)) c.four_decimals.ensures ∙ three_digits c.args.number (omega arith) (omega arith)) c.put_whole-then-number-lt1000.ensures
+    (ap (λ four. take 3 (drop 1 four)) c.four_decimals.ensures ∙ three_digits c.args.number (omega arith) (omega arith))
+    c.put_whole-then-number-lt1000.ensures
 
 pub returns-else-number-lt1000 : goal.returns-else-number-lt1000
 returns-else-number-lt1000 g c =
     subst (λ text. g.S.TextSink.says c.args.out.now text c.put_whole-else-number-lt1000.new.self)
-    (c.four_decimals-else-number-lt1000.ensures ∙ four_digits c.args.number (omega arith) (omega (arith, c.requires))) c.put_whole-else-number-lt1000.ensures
+    (c.four_decimals-else-number-lt1000.ensures ∙ four_digits c.args.number (omega arith) (omega (arith, c.requires)))
+    c.put_whole-else-number-lt1000.ensures

@@ -14,12 +14,14 @@ none = record { len = 0; block = 0; start = 0; dir = Tester }
 pub message-requires : goal.message-requires
 unfolding none
 message-requires g c =
-    subst (IsInside c.args.messages.now) (sym c.span.ensures) (held-at c.args.messages.now c.args.held.now c.loop-one.one-index none c.requires (omega arith))
+    subst (IsInside c.args.messages.now) (sym c.span.ensures)
+    (held-at c.args.messages.now c.args.held.now c.loop-one.one-index none c.requires (omega arith))
 
 pub returns-in_err-put-clause-err : goal.returns-in_err-put-clause-err
 unfolding none
 returns-in_err-put-clause-err g c =
-    let next = next-held c.args.messages.now c.args.held.now c.loop-one.one-index none c.message.result.now (omega arith) (c.message.ensures ∙ ap (bytes_at c.args.messages.now) c.span.ensures) in
+    let next = next-held c.args.messages.now c.args.held.now c.loop-one.one-index none c.message.result.now (omega arith)
+    (c.message.ensures ∙ ap (bytes_at c.args.messages.now) c.span.ensures) in
     handed_on c.from_residual.result _ _ c.from_residual.ensures.1
     (onto-fault g.S.MessageSink.after_ok g.S.MessageSink.after_err _ _ _ _ _ _ _ (c.in_err-put.ensures.err)
     (onto-along g.S.MessageSink.after_ok g.S.MessageSink.after_err _ _ _ _ _ next c.loop-one.invariant))
@@ -27,6 +29,7 @@ returns-in_err-put-clause-err g c =
 pub loop-one-preserved : goal.loop-one-preserved
 unfolding none
 loop-one-preserved g c =
-    let next = next-held c.args.messages.now c.args.held.now c.loop-one.one-index none c.message.result.now (omega arith) (c.message.ensures ∙ ap (bytes_at c.args.messages.now) c.span.ensures) in
+    let next = next-held c.args.messages.now c.args.held.now c.loop-one.one-index none c.message.result.now (omega arith)
+    (c.message.ensures ∙ ap (bytes_at c.args.messages.now) c.span.ensures) in
     onto-next g.S.MessageSink.after_ok g.S.MessageSink.after_err _ _ _ _ _ _ (c.in_ok-put.ensures.ok)
     (onto-along g.S.MessageSink.after_ok g.S.MessageSink.after_err _ _ _ _ _ next c.loop-one.invariant)

@@ -6,4 +6,5 @@ use Rattle.uds_exchange.proofs.held.put_each.Given as goal
 
 abbrev pub invariant-loop-one : goal.invariant-loop-one
 invariant-loop-one g l =
-    Onto g.S.MessageSink.after_ok g.S.MessageSink.after_err l.sink (messages_at l.messages (drop l.one-index l.held)) l.fn.sink (messages_at l.messages l.held)
+    Onto g.S.MessageSink.after_ok g.S.MessageSink.after_err l.sink (messages_at l.messages (drop l.one-index l.held)) l.fn.sink
+    (messages_at l.messages l.held)

@@ -11,4 +11,5 @@ returns-in_err-put-clause-err g c =
 pub returns-clause-err : goal.returns-clause-err
 returns-clause-err g c =
     if_err_along c.put_all.result _ _ (λ e f.
-    fails-cons g.S.MessageSink.after_ok g.S.MessageSink.after_err _ _ _ (c.args.dir, c.args.message.now) _ _ c.in_ok-put.ensures.ok f) c.put_all.ensures.err
+    fails-cons g.S.MessageSink.after_ok g.S.MessageSink.after_err _ _ _ (c.args.dir, c.args.message.now) _ _ c.in_ok-put.ensures.ok f)
+    c.put_all.ensures.err

@@ -12,4 +12,5 @@ returns-in_err-put_all-clause-err g c =
 
 pub returns-clause-ok : goal.returns-clause-ok
 returns-clause-ok g c =
-    on_ok_weaker c.put.result (λ h. puts-append g.S.MessageSink.after_ok g.S.MessageSink.after_err _ _ _ _ _ c.in_ok-put_all.ensures.ok (_, h, refl)) c.put.ensures.ok
+    on_ok_weaker c.put.result (λ h. puts-append g.S.MessageSink.after_ok g.S.MessageSink.after_err _ _ _ _ _ c.in_ok-put_all.ensures.ok
+    (_, h, refl)) c.put.ensures.ok

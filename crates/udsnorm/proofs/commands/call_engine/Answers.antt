@@ -1,7 +1,7 @@
 use Rattle.std.proofs.Common.{◌-◌, ℕ, List, length, subst}
 use Rattle.isotp_receive.specs.declared.TheConstants.{MESSAGE_LIMIT}
 use Rattle.trace_run.specs.Script.{answers_counts, command, needs_none}
-use Rattle.trace_run.specs.Ran.{AnswersAndWrites, WritesSaidEagerly}
+use Rattle.trace_run.specs.AnswersAndWrites.{AnswersAndWrites, WritesSaidEagerly}
 use Rattle.trace_report.specs.Front.{page_title}
 use Rattle.trace_report.specs.Page.{refused_text, report_script}
 use Rattle.trace_run.specs.Script.{glimpse_of}
@@ -10,7 +10,16 @@ use Rattle.udsnorm.proofs.commands.call_engine.Goals as goal
 pub returns-in-Normalise : goal.returns-in-Normalise
 returns-in-Normalise g c =
     let ran = c.normalise.ensures in
-    record { ran = rw c.in-Normalise.is (record { answer = ran.answer; eager = ran.eager; memory = ran.memory; near = ran.near; read = ran.read; wrote = ran.wrote }) }
+    record {
+      ran = rw c.in-Normalise.is (record {
+        answer = ran.answer;
+        eager = ran.eager;
+        memory = ran.way.memory;
+        near = ran.way.near;
+        read = ran.way.read;
+        wrote = ran.wrote;
+      });
+    }
 
 pub returns-in-List : goal.returns-in-List
 returns-in-List g c = record { ran = rw c.in-List.is c.list.ensures.ran }
@@ -33,12 +42,21 @@ returns-in-Report g c =
       ran = rw c.in-Report.is (record {
         answer = λ log agrees. (
           c.report_style.result.now,
-          subst (λ (name : List ℕ). AnswersAndWrites (command (report_script (page_title c.report_style.result.now name settings) MESSAGE_LIMIT) (refused_text (page_title c.report_style.result.now name settings) MESSAGE_LIMIT seen) answers_counts needs_none) MESSAGE_LIMIT settings log (length (g.R.Source.given c.report.new.source) - length (g.R.Source.given c.args.input.now)) c.report.result (g.W.Target.taken c.args.out.now) (g.W.Target.taken c.report.new.target)) c.as_bytes.ensures.value
+          subst (λ (name : List ℕ). AnswersAndWrites
+              (command (report_script (page_title c.report_style.result.now name settings) MESSAGE_LIMIT settings.rules)
+              (refused_text (page_title c.report_style.result.now name settings) MESSAGE_LIMIT settings.rules seen) answers_counts needs_none)
+              MESSAGE_LIMIT settings log (length (g.R.Source.given c.report.new.source) - length (g.R.Source.given c.args.input.now))
+              c.report.result (g.W.Target.taken c.args.out.now) (g.W.Target.taken c.report.new.target))
+              c.as_bytes.ensures.value
               (ran.answer log agrees),
         );
         eager = λ log agrees. (
           c.report_style.result.now,
-          subst (λ (name : List ℕ). WritesSaidEagerly (report_script (page_title c.report_style.result.now name settings) MESSAGE_LIMIT) MESSAGE_LIMIT settings log (length (g.R.Source.given c.report.new.source) - length (g.R.Source.given c.args.input.now)) (g.W.Target.taken c.args.out.now) (g.W.Target.taken c.report.new.target)) c.as_bytes.ensures.value
+          subst (λ (name : List ℕ). WritesSaidEagerly
+              (report_script (page_title c.report_style.result.now name settings) MESSAGE_LIMIT settings.rules)
+              MESSAGE_LIMIT settings log (length (g.R.Source.given c.report.new.source) - length (g.R.Source.given c.args.input.now))
+              (g.W.Target.taken c.args.out.now) (g.W.Target.taken c.report.new.target))
+              c.as_bytes.ensures.value
               (ran.eager log agrees),
         );
         memory = c.report.ensures.ran.memory (λ T e none. none);

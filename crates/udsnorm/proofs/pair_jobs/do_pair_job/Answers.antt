@@ -1,4 +1,5 @@
-use Rattle.std.proofs.Common.{◌≡◌, inr, [], Option, Result, subst, sym, ◌∙◌}
+use Rattle.std.proofs.Common.{◌≡◌, inr, [], List, Option, Result, subst, sym, ◌∙◌}
+use Rattle.uds_rules.specs.Rule.{RuleValue}
 use Rattle.isotp_receive.specs.declared.TheConstants.{MESSAGE_LIMIT}
 use Rattle.trace_canon.specs.ComparisonText.{comparison_text}
 use Rattle.trace_log.specs.declared.fault.CompareFault.{CompareFault}
@@ -7,6 +8,7 @@ use Rattle.trace_log.specs.declared.fault.Fault.TheVariants as fault
 use Rattle.trace_pair.specs.Page.{pair_page}
 use Rattle.trace_pair.specs.Titles.{title_for}
 use Rattle.udsnorm.specs.Commands.{ComparesPair, PagesPair, text_of_difference}
+use Rattle.udsnorm.specs.Telling.{WroteText}
 use Rattle.udsnorm.specs.proving.Pairs.{answer_kept, cause_in, text_of_answer}
 use Rattle.trace_report.specs.declared.cause.RefusalCause.{RefusalCause}
 use Rattle.trace_run.specs.Script.{glimpse_of}
@@ -16,14 +18,15 @@ use Rattle.udsnorm.proofs.pair_jobs.do_pair_job.Goals as goal
 
 pub returns-in-Compare-clause-engine : goal.returns-in-Compare-clause-engine
 returns-in-Compare-clause-engine g c =
-    let style = comparison_text c.in-Compare.style in
+    let style = λ (rules : List RuleValue). comparison_text rules c.in-Compare.style in
     let settings = c.args.config.now in
-    let text = text_of_answer c.args.strict style c.compare-answer.result in
+    let text = text_of_answer c.args.strict style settings.rules c.compare-answer.result in
     rw c.in-Compare.is (
       text,
       λ one other agrees_one agrees_other. subst (λ (told : Result PairAnswer CompareFault). ComparesPair style c.args.strict MESSAGE_LIMIT settings one other told text) (sym c.answer_of.ensures)
           (compared_pair style c.args.strict MESSAGE_LIMIT settings one other c.compare-answer.result (c.compare-answer.ensures.answer one other agrees_one agrees_other)),
-      c.write_answer.ensures.text,
+      subst (λ (rules : List RuleValue). WroteText g.W.Target (text_of_answer c.args.strict style rules c.compare-answer.result) c.write_answer.result c.args.out.now c.write_answer.new.out)
+          c.rules.ensures c.write_answer.ensures.text,
     )
 
 pub returns-in-Compare-clause-left_memory : goal.returns-in-Compare-clause-left_memory
@@ -44,12 +47,13 @@ pub returns-in-Ok-clause-engine : goal.returns-in-Ok-clause-engine
 returns-in-Ok-clause-engine g c =
     let text_of = text_of_difference c.in-Diff.notation c.args.left_name.now c.args.right_name.now in
     let settings = c.args.config.now in
-    let text = text_of_answer c.args.strict text_of c.compare-compared.result in
+    let text = text_of_answer c.args.strict text_of settings.rules c.compare-compared.result in
     rw c.in-Diff.is (
       text,
       λ one other agrees_one agrees_other. subst (λ (told : Result PairAnswer CompareFault). ComparesPair text_of c.args.strict MESSAGE_LIMIT settings one other told text) (sym c.answer_of-in-Ok.ensures)
           (compared_pair text_of c.args.strict MESSAGE_LIMIT settings one other c.compare-compared.result (c.compare-compared.ensures.answer one other agrees_one agrees_other)),
-      c.in-Ok.ensures.text,
+      subst (λ (rules : List RuleValue). WroteText g.W.Target (text_of_answer c.args.strict text_of rules c.compare-compared.result) c.in-Ok.wrote c.args.out.now c.write_diff.new.out)
+          c.rules-in-Diff.ensures c.in-Ok.ensures.text,
     )
 
 pub returns-in-Ok-clause-left_memory : goal.returns-in-Ok-clause-left_memory

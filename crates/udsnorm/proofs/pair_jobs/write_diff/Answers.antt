@@ -12,7 +12,7 @@ use Rattle.udsnorm.proofs.pair_jobs.write_diff.Goals as goal
 pub returns-in-Ok-clause-text : goal.returns-in-Ok-clause-text
 returns-in-Ok-clause-text g c =
     subst (λ (text : List ℕ). IfOk c.write_differing.result (λ wrote. WroteText g.W.Target text wrote c.args.out.now c.write_differing.new.out))
-    (text_of_clean c.args.strict (text_of_difference c.args.notation c.args.left_name.now c.args.right_name.now) c.in-Ok.compared c.args.answer.now c.in-Ok.is
+    (text_of_clean c.args.strict (text_of_difference c.args.notation c.args.left_name.now c.args.right_name.now) c.args.rules.now c.in-Ok.compared c.args.answer.now c.in-Ok.is
     (ap (has_unclean c.args.strict) (sym c.pair_of.ensures) ∙ sym c.has_unclean.ensures ∙ c.if-not-has_unclean.true))
     c.write_differing.ensures.text
 

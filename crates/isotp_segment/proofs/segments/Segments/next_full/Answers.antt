@@ -10,7 +10,8 @@ use Rattle.isotp_segment.proofs.segments.Segments.next_full.Goals as goal
 
 pub returns-then-self-lt2-clause-misses_none : goal.returns-then-self-lt2-clause-misses_none
 returns-then-self-lt2-clause-misses_none c full =
-    let at = is_full_at MESSAGE_LIMIT c.args.sender c.self.inside.dir c.self.inside.message.now c.self.inside.number c.self.invariant.some c.self.invariant.limit
+    let its = c.self.inside in
+    let at = is_full_at MESSAGE_LIMIT c.args.sender its.dir its.message.now its.number c.self.invariant.some c.self.invariant.limit
     (subst (IsFullNext c.args.sender) (sym c.self.view_is) full) in
     elim c.then-self-lt2.branch [
       | then-self-lt2-via-then-self-lt2 w ↦ absurd (omega (arith, at.consecutive, w.if-self-lt2.true))
@@ -21,7 +22,8 @@ returns-then-self-lt2-clause-misses_none c full =
 
 pub returns-in_err-frame-clause-misses_none : goal.returns-in_err-frame-clause-misses_none
 returns-in_err-frame-clause-misses_none c full =
-    let at = is_full_at MESSAGE_LIMIT c.args.sender c.self.inside.dir c.self.inside.message.now c.self.inside.number c.self.invariant.some c.self.invariant.limit
+    let its = c.self.inside in
+    let at = is_full_at MESSAGE_LIMIT c.args.sender its.dir its.message.now its.number c.self.invariant.some c.self.invariant.limit
     (subst (IsFullNext c.args.sender) (sym c.self.view_is) full) in
     let short = c.in_err-frame.ensures.none in
     absurd (omega (arith, at.within, short))

@@ -10,11 +10,12 @@ returns-in_ok-take-in-Some-clause-ok c = λ start meanings number few took begun
     c.args.line c.in-Some.is number few c.in_ok-take-in-Some.ensures.ok (took begun)
 
 pub returns-in_err-take-in-Some-clause-err : goal.returns-in_err-take-in-Some-clause-err
-returns-in_err-take-in-Some-clause-err c = rw (handed_on c.from_residual.result _ c.from_residual.ensures.1) (λ start meanings number few took begun. (
-  refl,
-  heard_first meanings c.args.what.now c.in-Some.stamped c.args.self.now.finder c.args.self.now.lines c.in-Some.is
-      c.in_err-take-in-Some.ensures.needs (took begun),
-))
+returns-in_err-take-in-Some-clause-err c = rw (handed_on c.from_residual.result _ c.from_residual.ensures.1)
+    (λ start meanings number few took begun. (
+      refl,
+      heard_first meanings c.args.what.now c.in-Some.stamped c.args.self.now.finder c.args.self.now.lines c.in-Some.is
+          c.in_err-take-in-Some.ensures.needs (took begun),
+    ))
 
 pub returns-in-None-clause-ok : goal.returns-in-None-clause-ok
 returns-in-None-clause-ok c = λ start meanings number few took begun.

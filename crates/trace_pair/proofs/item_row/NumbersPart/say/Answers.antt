@@ -3,8 +3,8 @@ use Rattle.std.proofs.Common.{◌≡◌, ℕ, Bool, List, ◌++◌, codes, refl,
 use Rattle.uds_difference.specs.declared.row.Row.{Row}
 use Rattle.uds_difference.specs.declared.row.Row.TheVariants.{Same, Changed, OnlyLeft, OnlyRight}
 use Rattle.trace_pair.specs.ItemRows.{number_if, numbers}
-use Rattle.trace_pair.specs.Logs.{has_item}
-use Rattle.trace_pair.specs.declared.log.PairLog.TheVariants.{A, B}
+use Rattle.pair_words.specs.Logs.{has_item}
+use Rattle.pair_words.specs.declared.log.PairLog.TheVariants.{A, B}
 use Rattle.trace_pair.proofs.item_row.NumbersPart.say.Goals as goal
 
 abbrev numbers-by : Bool → Bool → ℕ → ℕ → List ℕ

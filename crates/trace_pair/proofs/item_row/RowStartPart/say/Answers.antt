@@ -1,7 +1,7 @@
 -- A row begins with what it looks like, and where a change begins, with its number.
 use Rattle.std.proofs.Common.{◌≡◌, ℕ, ◌++◌, List, Option, ap, append_assoc, codes, subst, sym, ◌∙◌}
 use Rattle.trace_pair.specs.declared.item_row.Begun.{Begun}
-use Rattle.trace_pair.specs.DifferenceNames.{difference_name}
+use Rattle.pair_words.specs.DifferenceNames.{difference_name}
 use Rattle.trace_pair.specs.ItemRows.{begun_number, row_class, row_start}
 use Rattle.trace_pair.proofs.item_row.RowStartPart.say.Goals as goal
 

@@ -2,4 +2,4 @@
 use Rattle.trace_pair.proofs.item_words.FirstBytesPart.say.Goals as goal
 
 pub returns : goal.returns
-returns g c = rw (c.told.ensures, c.saturating_sub-more.ensures) at c.say.ensures
+returns g c = rw (c.saturating_sub-more.ensures, c.known_length.ensures) at c.say.ensures

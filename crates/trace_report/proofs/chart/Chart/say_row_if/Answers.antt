@@ -29,5 +29,5 @@ returns-in-Some-clause-says g c = λ before few is.
     let counts = ap (λ (b : Blocks). b.count) is.blocks in
     let rows = ap (λ (b : Blocks). b.rows) is.blocks in
     subst (λ text. g.S.TextSink.says c.args.out.now text c.say_next_row.new.out)
-    (λ i. rows_text c.args.origin (is.blocks i) (row_if (sym c.in-Some.is i)))
+    (λ i. rows_text c.args.rules.now c.args.origin (is.blocks i) (row_if (sym c.in-Some.is i)))
     (c.say_next_row.ensures.says (omega (arith, counts, low.0)) (omega (arith, rows, low.1)))

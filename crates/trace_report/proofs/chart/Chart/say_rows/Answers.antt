@@ -34,7 +34,7 @@ returns-clause-says g c = λ before few is.
     let one = length-append before a in
     let second = c.say_row_if-2.ensures.stands (before ++ a) (omega (arith, one, one_at_most c.args.rows.first)) first in
     let two = length-append (before ++ a) b in
-    subst (λ text. g.S.TextSink.says c.args.out.now text c.say_row_if-3.new.out) (three_onward c.args.origin before a b d)
+    subst (λ text. g.S.TextSink.says c.args.out.now text c.say_row_if-3.new.out) (three_onward c.args.rules.now c.args.origin before a b d)
     (g.met.S.TextSink.onward _ _ _ _ _ (g.met.S.TextSink.onward _ _ _ _ _ (c.say_row_if.ensures.says before (omega arith) is)
     (c.say_row_if-2.ensures.says (before ++ a) (omega (arith, one, one_at_most c.args.rows.first)) first))
     (c.say_row_if-3.ensures.says ((before ++ a) ++ b) (omega (arith, one, two, one_at_most c.args.rows.first, one_at_most c.args.rows.second)) second))

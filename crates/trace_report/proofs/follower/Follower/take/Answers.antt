@@ -1,9 +1,10 @@
 -- The rows of a frame, by whether it completed a message, and what the follower knows behind it.
-use Rattle.std.proofs.Common.{◌≡◌, refl, List, ap, sym, subst, ◌∙◌, [], ◌∷◌, ◌++◌}
+use Rattle.std.proofs.Common.{◌≡◌, List, ap, sym, subst, ◌∙◌, [], ◌∷◌, ◌++◌}
 use Rattle.isotp_receive.specs.declared.TheConstants.{MESSAGE_LIMIT}
 use Rattle.isotp_receive.specs.EventSeen.{seen_event}
 use Rattle.isotp_receive.specs.Trace.{Entry}
-use Rattle.isotp_receive.specs.Verdict.{EventValue, messages, verdict}
+use Rattle.uds_rules.specs.Rule.{RuleValue}
+use Rattle.trace_log.specs.Messages.{messages_under}
 use Rattle.trace_canon.specs.FirstFrames.{place_of}
 use Rattle.trace_canon.specs.declared.reception_starts.FramePlace.{FramePlace}
 use Rattle.trace_run.specs.Seen.{IsEventOf, IsSeen}
@@ -15,9 +16,9 @@ use Rattle.trace_report.proofs.Meeting.{message_event, met_next, met_none, rows_
 use Rattle.trace_report.proofs.follower.Follower.take.Goals as goal
 
 -- what the frame did there
-event_at : (T : List Entry) (e : Entry) (seen : Seen) (here : FramePlace) → IsSeen T e seen → here ≡ record { line = seen.line; micros = seen.micros }
-    → IsEventOf T e here.line here.micros seen.dir seen.event
-event_at T e seen here is here_is = record {
+event_at : (rules : List RuleValue) (T : List Entry) (e : Entry) (seen : Seen) (here : FramePlace) → IsSeen rules T e seen
+    → here ≡ record { line = seen.line; micros = seen.micros } → IsEventOf T e here.line here.micros seen.dir seen.event
+event_at rules T e seen here is here_is = record {
   few = is.event.few;
   line = is.event.line ∙ ap (λ (p : FramePlace). p.line) (sym here_is);
   micros = is.event.micros ∙ ap (λ (p : FramePlace). p.micros) (sym here_is);
@@ -25,57 +26,57 @@ event_at T e seen here is here_is = record {
   did = is.event.did;
 }
 
-place_at : (T : List Entry) (e : Entry) (seen : Seen) (here : FramePlace) → IsSeen T e seen → here ≡ record { line = seen.line; micros = seen.micros } → here ≡ place_of e
-place_at T e seen here is here_is =
+place_at : (rules : List RuleValue) (T : List Entry) (e : Entry) (seen : Seen) (here : FramePlace) → IsSeen rules T e seen
+    → here ≡ record { line = seen.line; micros = seen.micros } → here ≡ place_of e
+place_at rules T e seen here is here_is =
     here_is ∙ (λ i. let p : FramePlace = record { line = sym is.event.line i; micros = sym is.event.micros i } in p)
 
 pub returns-in-Some-clause-next : goal.returns-in-Some-clause-next
-returns-in-Some-clause-next c = λ T e seen known.
+returns-in-Some-clause-next c = λ rules T e seen known.
     let what = c.args.seen in
     let here = c.here_of-here.result in
     let message = c.in-Some.message in
-    let completes = completes_judged T e what message seen c.in-Some.is in
-    let at = event_at T e what here seen c.here_of-here.ensures in
+    let completes = completes_judged rules T e what message seen c.in-Some.is in
+    let at = event_at rules T e what here seen c.here_of-here.ensures in
     record {
-      met = met_next T e message.dir (verdict MESSAGE_LIMIT T e) completes.dir refl message.bytes.now here.micros c.args.self.now.asked c.take_message.new.self
-          completes.did (sym at.micros) known.met.asked_then
-          (c.take_message.ensures.next (messages MESSAGE_LIMIT T) completes.step completes.item known.met.waits known.met.silent);
+      met = met_next rules T e message here.micros c.args.self.now.asked c.take_message.new.self completes (sym at.micros)
+          known.met.asked_then
+          (c.take_message.ensures.next (messages_under rules MESSAGE_LIMIT T) completes.step completes.item known.met.waits known.met.silent);
       extents = subst (λ p. KnowsExtents (T ++ e ∷ []) p) (sym c.take_message.ensures.extents)
           (c.take-extent.ensures.next T e at known.extents);
     }
 
 pub returns-in-Some-clause-rows : goal.returns-in-Some-clause-rows
-returns-in-Some-clause-rows c = λ T e seen known.
-    let M = messages MESSAGE_LIMIT T in
+returns-in-Some-clause-rows c = λ rules T e seen known.
+    let M = messages_under rules MESSAGE_LIMIT T in
     let what = c.args.seen in
     let here = c.here_of-here.result in
-    let at = event_at T e what here seen c.here_of-here.ensures in
+    let at = event_at rules T e what here seen c.here_of-here.ensures in
     let message = c.in-Some.message in
-    let bytes = message.bytes.now in
-    let completes = completes_judged T e what message seen c.in-Some.is in
-    let stands = place_at T e what here seen c.here_of-here.ensures in
-    let told = ap (λ (x : EventValue). x.verdict) at.did ∙ completes.did in
+    let completes = completes_judged rules T e what message seen c.in-Some.is in
+    let stands = place_at rules T e what here seen c.here_of-here.ensures in
     let ended = c.ended_row_of-first.ensures e stands in
     let closing = c.take_message.ensures.closing M completes.step known.met.waits known.met.silent in
     let row = c.take_message.ensures.row M completes.step completes.item in
-    let first = c.take-extent.ensures.first T e at known.extents (bytes, completes.did) in
-    let frames = c.take-extent.ensures.frames T e at known.extents (bytes, completes.did) in
+    let first = c.take-extent.ensures.first T e at known.extents (completes.whole, completes.did) in
+    let frames = c.take-extent.ensures.frames T e at known.extents (completes.whole, completes.did) in
     rows_of_message (row_if c.ended_row_of-first.result) (row_if c.take_message.result.0) (row_of c.take_message.result.1)
     ∙ (λ i. ended i ++ (closing i ++ row i ∷ []))
-    ∙ message_event T e message.dir (seen_event what.event) bytes c.args.self.now.asked here c.take-extent.result completes.dir at.did told known.met.asked_then stands first frames
+    ∙ message_event rules T e (seen_event what.event) message c.args.self.now.asked here c.take-extent.result at.did completes
+    known.met.asked_then stands first frames
 
 pub returns-in-None-clause-next : goal.returns-in-None-clause-next
-returns-in-None-clause-next c = λ T e seen known.
+returns-in-None-clause-next c = λ rules T e seen known.
     let what = c.args.seen in
     let here = c.here_of-here.result in
     record {
-      met = met_none T e what _ seen c.in-None.is (record { waits = known.met.waits; silent = known.met.silent; asked_then = known.met.asked_then });
-      extents = c.take-extent.ensures.next T e (event_at T e what here seen c.here_of-here.ensures) known.extents;
+      met = met_none rules T e what seen c.in-None.is _ (record { waits = known.met.waits; silent = known.met.silent; asked_then = known.met.asked_then });
+      extents = c.take-extent.ensures.next T e (event_at rules T e what here seen c.here_of-here.ensures) known.extents;
     }
 
 pub returns-in-None-clause-rows : goal.returns-in-None-clause-rows
-returns-in-None-clause-rows c = λ T e seen known.
+returns-in-None-clause-rows c = λ rules T e seen known.
     let what = c.args.seen in
     let here = c.here_of-here.result in
-    let stands = place_at T e what here seen c.here_of-here.ensures in
-    rows_none T e what here (row_if c.ended_row_of-first.result) (row_if c.dropped_row_of.result) seen c.in-None.is stands (c.ended_row_of-first.ensures e stands) c.dropped_row_of.ensures
+    let stands = place_at rules T e what here seen c.here_of-here.ensures in
+    rows_none rules T e what here (row_if c.ended_row_of-first.result) (row_if c.dropped_row_of.result) seen c.in-None.is stands (c.ended_row_of-first.ensures e stands) c.dropped_row_of.ensures

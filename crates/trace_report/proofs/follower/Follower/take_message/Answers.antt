@@ -2,8 +2,7 @@
 use Rattle.std.proofs.Common.{◌≡◌, ◌⊎◌, inl, inr, Bool, Option, Some, ℕ, ap, sym, ◌∙◌, true, false}
 use Rattle.std.specs.Prelude.{if◌then◌else◌}
 use Rattle.uds_exchange.specs.Judging.{number_after, sent, step_after}
-use Rattle.uds_exchange.specs.Judging.{open_number_if_any}
-use Rattle.uds_exchange.specs.proving.ItemNumbers.{open_number_after_step}
+use Rattle.uds_exchange.specs.proving.ItemNumbers.{open_number_if_any, open_number_after_step}
 use Rattle.uds_exchange.specs.declared.step.Step.{Step}
 use Rattle.uds_exchange.specs.declared.step.Step.TheVariants as step
 use Rattle.uds_exchange.proofs.Promises.{open_number_goes_on}

@@ -6,5 +6,12 @@ use Rattle.trace_report.proofs.verdict.FindingsPart.say.Goals as goal
 pub returns : goal.returns
 returns g c =
     subst (λ text. g.S.TextSink.says c.args.out.now text c.say.new.out)
-    (λ i. findings_text (record { tally = c.args.self.tally.now; summary = c.args.self.summary.now; first = c.first_of.ensures i; last = c.last_of.ensures i }))
+    (λ i. findings_text (record {
+      rules = c.args.self.rules.now;
+      spoken = c.args.self.spoken.now;
+      tally = c.args.self.tally.now;
+      summary = c.args.self.summary.now;
+      first = c.first_of.ensures i;
+      last = c.last_of.ensures i;
+    }))
     c.say.ensures

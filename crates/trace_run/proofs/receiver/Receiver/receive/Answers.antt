@@ -15,6 +15,10 @@ returns-in-Err-clause-told g c = λ T stands few.
     let kept = c.in-Err.ensures.refused T stands in
     record {
       ok = tt;
-      err = λ start tells. record { within = tells.within; reason = (λ strict. announces_kept T e kept, inl kept); carried = tells.carried };
-      kept = λ start earlier tells sure. sure;
+      err = λ start ruled tells. record {
+        within = tells.within;
+        reason = (λ strict. announces_kept T e kept, inl (inl kept));
+        carried = tells.carried;
+      };
+      kept = λ start earlier ruled tells sure. sure;
     }

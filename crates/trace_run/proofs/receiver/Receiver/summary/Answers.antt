@@ -10,6 +10,6 @@ pub returns : goal.returns
 returns g c = λ settings log meanings received feed judged.
     let self = c.args.self.now in
     summed_up settings log meanings self.pair self.lines c.saturating_add.result self.counts c.unfinished.result c.removed.result
-    c.args.ends_in_line_feed c.look_exchanged.result received feed (omega arith) c.saturating_add.ensures
-    (c.unfinished.ensures (trace settings meanings) received.pair_is) (c.removed.ensures ∙ judged.counted.removed)
-    (c.look_exchanged.ensures (messages_of_lines MESSAGE_LIMIT settings meanings) (c.sides.ensures ∙ judged.sides))
+    self.telling.ruling.left_out c.args.ends_in_line_feed c.look_exchanged.result received feed (omega arith) c.saturating_add.ensures
+    (c.unfinished.ensures (trace settings meanings) received.pair_is) (c.removed.ensures ∙ judged.judged.counted.removed) judged.counted
+    (c.look_exchanged.ensures (messages_of_lines MESSAGE_LIMIT settings meanings) (c.sides.ensures ∙ judged.judged.sides))

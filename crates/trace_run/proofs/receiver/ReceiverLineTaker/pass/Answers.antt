@@ -16,5 +16,5 @@ returns-clause-takes g c = λ device one two stamped wants not_one not_two start
         config = so_far.0.config;
         lines = receives_same settings meanings (Some stamped) self.pair self.lines c.args.line self.counts same number so_far.0.lines;
       },
-      subst (λ T. HasTold g.M.Machine g.W.Target (start_with machine_start start.1) T self.telling device) (sym same) so_far.1,
+      subst (λ T. HasTold g.M.Machine g.W.Target (start_with settings.rules machine_start start.1) T self.telling device) (sym same) so_far.1,
     )

@@ -6,7 +6,7 @@ use Rattle.isotp_receive.specs.Trace.{Entry}
 use Rattle.isotp_receive.specs.Verdict.{verdict}
 use Rattle.isotp_receive.specs.StandingReception.{receptions_after}
 use Rattle.trace_run.specs.proving.Telling.{start_with, HasStopped, HasTold}
-use Rattle.trace_log.specs.Settings.{direction_of}
+use Rattle.trace_log.specs.Settings.{Settings, direction_of}
 use Rattle.trace_log.specs.Trace.{trace}
 use Rattle.trace_log.specs.Summing.{counted_more}
 use Rattle.trace_log.specs.proving.Receiving.{entry_at, entry_in}
@@ -23,7 +23,8 @@ returns-in_default-clause-ok g c = λ start meanings number few took settings ma
         config = so_far.0.config;
         lines = receives_same settings meanings c.args.what.now self.pair self.lines c.args.line self.counts same number so_far.0.lines;
       },
-      subst (λ T. HasTold g.M.Machine g.W.Target (start_with machine_start start.1) T self.telling c.args.device.now) (sym same) so_far.1,
+      subst (λ T. HasTold g.M.Machine g.W.Target (start_with settings.rules machine_start start.1) T self.telling c.args.device.now)
+          (sym same) so_far.1,
     )
 
 pub returns-in_default-direction_of-clause-ok : goal.returns-in_default-direction_of-clause-ok
@@ -39,7 +40,8 @@ returns-in_default-direction_of-clause-ok g c = λ start meanings number few too
         config = so_far.0.config;
         lines = receives_same settings meanings c.args.what.now self.pair self.lines c.args.line self.counts same number so_far.0.lines;
       },
-      subst (λ T. HasTold g.M.Machine g.W.Target (start_with machine_start start.1) T self.telling c.args.device.now) (sym same) so_far.1,
+      subst (λ T. HasTold g.M.Machine g.W.Target (start_with settings.rules machine_start start.1) T self.telling c.args.device.now)
+          (sym same) so_far.1,
     )
 
 pub returns-clause-ok : goal.returns-clause-ok
@@ -59,7 +61,7 @@ returns-clause-ok g c =
     let here : at c.args.line ≡ entry_in meanings stamped d = ap at line in
     let frames = few_frames settings meanings in
     let T = trace settings meanings in
-    let begins = start_with machine_start start.1 in (
+    let begins = start_with settings.rules machine_start start.1 in (
       record {
         config = c.receive.ensures.same.0 ∙ so_far.0.config;
         lines =
@@ -71,7 +73,7 @@ returns-clause-ok g c =
       },
       subst (λ U. HasTold g.M.Machine g.W.Target begins U now.telling c.receive.new.target) (sym next)
           (subst (λ (e : Entry). HasTold g.M.Machine g.W.Target begins (T ++ e ∷ []) now.telling c.receive.new.target) here
-          (taken T so_far.0.lines.pair_is (omega arith) begins so_far.1)),
+          (taken T so_far.0.lines.pair_is (omega arith) begins (ap (λ (s : Settings). s.rules) (sym so_far.0.config)) so_far.1)),
     )) c.receive.ensures.pair c.receive.ensures.grew c.receive.ensures.counts
     (on_ok_of_each _ _ _ c.receive.result (λ T stands few. (c.receive.ensures.told T stands few).ok))
 
@@ -86,7 +88,7 @@ returns-clause-err g c =
     let here : at c.args.line ≡ entry_in meanings stamped d = ap at line in
     let frames = few_frames settings meanings in
     let T = trace settings meanings in
-    let begins = start_with machine_start start.1 in
+    let begins = start_with settings.rules machine_start start.1 in
     record {
       stamped = stamped;
       dir = d;
@@ -96,12 +98,12 @@ returns-clause-err g c =
           ∙ ap (λ s. direction_of s stamped.frame.id) so_far.0.config;
       stopped =
           subst (λ (e : Entry). HasStopped g.M.Machine g.W.Target begins T e fault c.receive.new.self.telling c.receive.new.target) here
-          (stops T so_far.0.lines.pair_is (omega arith) begins so_far.1);
+          (stops T so_far.0.lines.pair_is (omega arith) begins (ap (λ (s : Settings). s.rules) (sym so_far.0.config)) so_far.1);
     }) (if_err_of_each _ _ _ c.receive.result (λ T stands few. (c.receive.ensures.told T stands few).err))
 
 pub returns-clause-kept : goal.returns-clause-kept
 returns-clause-kept g c = λ start meanings earlier number few took sure settings machine_start begun.
     let so_far = took settings machine_start begun in
     let frames = few_frames settings meanings in
-    (c.receive.ensures.told (trace settings meanings) so_far.0.lines.pair_is (omega arith)).kept (start_with machine_start start.1)
-    (trace settings earlier) so_far.1 (sure settings machine_start begun)
+    (c.receive.ensures.told (trace settings meanings) so_far.0.lines.pair_is (omega arith)).kept (start_with settings.rules machine_start start.1)
+    (trace settings earlier) (ap (λ (s : Settings). s.rules) (sym so_far.0.config)) so_far.1 (sure settings machine_start begun)

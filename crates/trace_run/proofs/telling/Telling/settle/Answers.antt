@@ -1,10 +1,10 @@
--- What is on the page is settled: so all that was said is written, or writing failed.
+-- What is on the sheet is settled: so all that was said is written, or writing failed.
 use Rattle.std.proofs.Common.{[], arith, false, subst}
 use Rattle.std.specs.Prelude.{not}
-use Rattle.trace_run.specs.proving.Carrying.{Carries, blank_page}
+use Rattle.trace_run.specs.proving.Carrying.{Carries, blank_sheet}
 use Rattle.trace_run.specs.proving.Telling.{said_since, HasToldAndWritten}
 use Rattle.trace_run.proofs.Carryings.{carries_at_start, wrote_all}
-use Rattle.trace_run.proofs.ToldFrames.{settled_as, same_page}
+use Rattle.trace_run.proofs.ToldFrames.{settled_as, same_sheet}
 use Rattle.trace_run.proofs.telling.Telling.settle.Goals as goal
 
 pub returns : goal.returns
@@ -18,15 +18,15 @@ returns g c =
           subst (λ b. HasToldAndWritten M W start T self (not b) c.settle.new.target) is
           (settled_as M W start T self _ _ c.settle.result tells c.settle.ensures.settled) in (
             now,
-            same_page M W start T self c.settle.new.self c.settle.new.target now (c.settle.ensures.well is) (c.settle.ensures.blank is),
+            same_sheet M W start T self c.settle.new.self c.settle.new.target now (c.settle.ensures.well is) (c.settle.ensures.blank is),
           );
       wrong = λ is start T tells.
           subst (λ b. HasToldAndWritten M W start T self (not b) c.settle.new.target) is
           (settled_as M W start T self _ _ c.settle.result tells c.settle.ensures.settled);
       sure = λ is start T tells.
-          let text = said_since M start.machine T in
-          let written : Carries W start.target text (blank_page false) c.settle.new.target =
-          subst (λ b. Carries W start.target text (blank_page (not b)) c.settle.new.target) is
+          let text = said_since M start.rules start.machine T in
+          let written : Carries W start.target text (blank_sheet false) c.settle.new.target =
+          subst (λ b. Carries W start.target text (blank_sheet (not b)) c.settle.new.target) is
           (c.settle.ensures.settled start.target text tells.carried) in
           record {
             within = tells.within;

@@ -5,8 +5,10 @@ use Rattle.trace_text.proofs.name_parts.ResponseCodePart.say.Goals as goal
 
 pub returns-in-Some : goal.returns-in-Some
 returns-in-Some g c =
-    subst (λ text. g.S.TextSink.says c.args.out.now text c.say.new.out) (code_named c.args.self.0 (Some c.in-Some.name.now) c.in-Some.ensures) c.say.ensures
+    subst (λ text. g.S.TextSink.says c.args.out.now text c.say.new.out)
+    (code_named c.args.self.0 (Some c.in-Some.name.now) c.in-Some.ensures) c.say.ensures
 
 pub returns-in-None : goal.returns-in-None
 returns-in-None g c =
-    subst (λ text. g.S.TextSink.says c.args.out.now text c.put.new.self) (c.numbered_code.ensures ∙ code_named c.args.self.0 None c.in-None.ensures) c.put.ensures
+    subst (λ text. g.S.TextSink.says c.args.out.now text c.put.new.self)
+    (c.numbered_code.ensures ∙ code_named c.args.self.0 None c.in-None.ensures) c.put.ensures

@@ -9,4 +9,5 @@ front number = refl
 
 pub returns : goal.returns
 returns g c =
-    subst (λ text. g.S.TextSink.says c.args.out.now text c.put_whole.new.self) (ap (take 6) c.six_decimals.ensures ∙ front c.args.self.0) c.put_whole.ensures
+    subst (λ text. g.S.TextSink.says c.args.out.now text c.put_whole.new.self)
+    (ap (take 6) c.six_decimals.ensures ∙ front c.args.self.0) c.put_whole.ensures

@@ -8,13 +8,15 @@ use Rattle.uds_exchange.proofs.decider.Decider.take.Goals as goal
 
 pub returns-clause-stands : goal.returns-clause-stands
 returns-clause-stands g c =
-    on_ok_weaker c.advance.result (λ h M is judged. h ∙ keeps-found M (sent c.args.message) c.args.message.step c.args.self.now is judged) c.advance.ensures.now
+    on_ok_weaker c.advance.result (λ h M is judged. h ∙ keeps-found M (sent c.args.message) c.args.message.step c.args.self.now is judged)
+    c.advance.ensures.now
 
 pub returns-clause-puts : goal.returns-clause-puts
 returns-clause-puts g c =
     let x = sent c.args.message in
     let by = c.args.message.step in
-    on_ok_weaker c.advance.result (λ h M is judged. (decided_for by c.args.self.now x, decided-found M x by c.args.self.now is judged, h)) c.advance.ensures.puts
+    on_ok_weaker c.advance.result (λ h M is judged. (decided_for by c.args.self.now x, decided-found M x by c.args.self.now is judged, h))
+    c.advance.ensures.puts
 
 pub returns-clause-needs : goal.returns-clause-needs
 returns-clause-needs g c =

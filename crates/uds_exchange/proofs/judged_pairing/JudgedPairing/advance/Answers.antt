@@ -17,19 +17,22 @@ pub invariant_of-self-in-Request : goal.invariant_of-self-in-Request
 invariant_of-self-in-Request c =
     let its = c.self.inside.meaning in
     let place = c.len-place.result in
-    subst (λ (l : List ItemValue). IsOpenPlace l (Some place)) (sym c.in_ok-push_request-in-Request.ensures.ok) (kept-request its c.args.message.bytes.now place c.len-place.ensures.value)
+    subst (λ (l : List ItemValue). IsOpenPlace l (Some place)) (sym c.in_ok-push_request-in-Request.ensures.ok)
+    (kept-request its c.args.message.bytes.now place c.len-place.ensures.value)
 
 pub invariant_of-self-in-Some : goal.invariant_of-self-in-Some
 invariant_of-self-in-Some c =
     let its = c.self.inside.meaning in
     let place = c.in-Some.place in
     let kept = c.self.invariant ∙ c.in-Some.is in
-    subst (λ (l : List ItemValue). IsOpenPlace l None) (sym (c.in_ok-answer-in-Answer.ensures.ok (waits its place kept).0.1 (waits-exchange its place kept))) (kept-answer its place kept c.args.message.bytes.now)
+    subst (λ (l : List ItemValue). IsOpenPlace l None) (sym (c.in_ok-answer-in-Answer.ensures.ok (waits its place kept).0.1
+    (waits-exchange its place kept))) (kept-answer its place kept c.args.message.bytes.now)
 
 pub invariant_of-self-in-Hold : goal.invariant_of-self-in-Hold
 invariant_of-self-in-Hold c =
     let its = c.self.inside.meaning in
-    subst (λ (l : List ItemValue). IsOpenPlace l c.self.inside.open_place) (sym c.in_ok-push_stray-in-Hold.ensures.ok) (kept-stray its c.self.inside.open_place (sent c.args.message) c.self.invariant)
+    subst (λ (l : List ItemValue). IsOpenPlace l c.self.inside.open_place) (sym c.in_ok-push_stray-in-Hold.ensures.ok)
+    (kept-stray its c.self.inside.open_place (sent c.args.message) c.self.invariant)
 
 pub returns-in_ok-answer-in-Answer-clause-ok : goal.returns-in_ok-answer-in-Answer-clause-ok
 returns-in_ok-answer-in-Answer-clause-ok c =

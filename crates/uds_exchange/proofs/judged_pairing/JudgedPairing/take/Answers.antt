@@ -7,8 +7,10 @@ use Rattle.uds_exchange.proofs.judged_pairing.JudgedPairing.take.Goals as goal
 
 pub returns-clause-ok : goal.returns-clause-ok
 returns-clause-ok c =
-    on_ok_weaker c.advance.result (λ h M is judged. h ∙ items-found M (sent c.args.message) c.args.message.step c.args.self.now is judged) c.advance.ensures.ok
+    on_ok_weaker c.advance.result (λ h M is judged. h ∙ items-found M (sent c.args.message) c.args.message.step c.args.self.now is judged)
+    c.advance.ensures.ok
 
 pub returns-clause-needs : goal.returns-clause-needs
 returns-clause-needs c =
-    on_err_weaker c.advance.result (λ h M is judged same. h (items-found M (sent c.args.message) c.args.message.step c.args.self.now is judged ∙ same ∙ sym is)) c.advance.ensures.needs
+    on_err_weaker c.advance.result (λ h M is judged same. h (items-found M (sent c.args.message) c.args.message.step c.args.self.now is judged
+    ∙ same ∙ sym is)) c.advance.ensures.needs

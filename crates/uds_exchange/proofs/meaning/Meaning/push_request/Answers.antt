@@ -16,5 +16,6 @@ returns-clause-ok c =
     let more = c.args.request.now in
     let all = c.push_reserved.ensures.items ∙ ap (λ l. l ++ kept.Exchange c.in_ok-request.request None ∷ []) c.reserve.ensures.items in
     pushed-items c.self.inside.messages c.append.new.self c.in_ok-request.ensures.laid.goes_on c.self.inside.items.items c.self.invariant
-    (kept.Exchange c.in_ok-request.request None) c.push_reserved.new.self.items (exchange more None) all (ap (λ r. exchange r None) c.in_ok-request.ensures.laid.holds.bytes)
+    (kept.Exchange c.in_ok-request.request None) c.push_reserved.new.self.items (exchange more None) all
+    (ap (λ r. exchange r None) c.in_ok-request.ensures.laid.holds.bytes)
     ∙ ap (λ l. l ++ exchange more None ∷ []) c.self.view_is

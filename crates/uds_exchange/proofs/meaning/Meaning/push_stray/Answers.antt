@@ -16,5 +16,6 @@ returns-clause-ok c =
     let more = c.args.bytes.now in
     let all = c.push_reserved.ensures.items ∙ ap (λ l. l ++ kept.Stray c.args.dir c.in_ok-bytes.bytes ∷ []) c.reserve.ensures.items in
     pushed-items c.self.inside.messages c.append.new.self c.in_ok-bytes.ensures.laid.goes_on c.self.inside.items.items c.self.invariant
-    (kept.Stray c.args.dir c.in_ok-bytes.bytes) c.push_reserved.new.self.items (stray c.args.dir more) all (ap (stray c.args.dir) c.in_ok-bytes.ensures.laid.holds.bytes)
+    (kept.Stray c.args.dir c.in_ok-bytes.bytes) c.push_reserved.new.self.items (stray c.args.dir more) all
+    (ap (stray c.args.dir) c.in_ok-bytes.ensures.laid.holds.bytes)
     ∙ ap (λ l. l ++ stray c.args.dir more ∷ []) c.self.view_is

@@ -13,8 +13,10 @@ use Rattle.uds_exchange.proofs.messages.Messages.lay_behind.Goals as goal
 pub returns-then-number-eq0-clause-laid : goal.returns-then-number-eq0-clause-laid
 returns-then-number-eq0-clause-laid c =
     if_ok_by c.extend_block.result _ _ _
-    (λ bytes span at. subst (λ old. Lays old span c.args.message.now (c.extend_block.new.block.items ∷ block_bytes c.self.inside.later.items)) c.self.view_is
-    (lays-in-first c.self.inside.first.items (block_bytes c.self.inside.later.items) c.args.number span c.args.message.now c.extend_block.new.block.items
+    (λ bytes span at. subst (λ old. Lays old span c.args.message.now (c.extend_block.new.block.items ∷ block_bytes c.self.inside.later.items))
+    c.self.view_is
+    (lays-in-first c.self.inside.first.items (block_bytes c.self.inside.later.items) c.args.number span c.args.message.now
+    c.extend_block.new.block.items
     (omega (arith, c.if-number-eq0.true)) bytes at))
     c.extend_block.ensures.bytes c.extend_block.ensures.span
 
@@ -38,5 +40,6 @@ returns-else-number-eq0-clause-err c =
     let below : k < length later =
     omega (arith, c.requires.block, ap length c.self.view_is, length-map later (λ (b : Vec ℕ Global). b.items), c.if-number-eq0.false) in
     on_err_weaker c.extend_block-else-number-eq0.result
-    (λ same. same-bytes c.self.inside.first later k below c.index_mut-block.result.now c.extend_block-else-number-eq0.new.block c.index_mut-block.ensures.value same ∙ c.self.view_is)
+    (λ same. same-bytes c.self.inside.first later k below c.index_mut-block.result.now c.extend_block-else-number-eq0.new.block
+    c.index_mut-block.ensures.value same ∙ c.self.view_is)
     c.extend_block-else-number-eq0.ensures.err

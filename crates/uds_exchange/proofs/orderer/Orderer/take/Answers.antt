@@ -24,4 +24,5 @@ returns-in_err-take-clause-needs g c = λ refused M is.
     let waits : IsOpenSid M c.self.inside.judge.open_sid = ap (λ (o : OrdererValue). o.open_sid) stood in
     let judged = judged-after M x c.take.result c.take.ensures.sent (c.take.ensures.step M waits) in
     subst (IsHeld M) c.take.ensures.sent
-    (c.in_err-take.ensures.needs (ap Err (handed_fault c.from_residual.result _ Memory c.from_residual.ensures.1 refused)) M (stands-without M _ stood) judged)
+    (c.in_err-take.ensures.needs (ap Err (handed_fault c.from_residual.result _ Memory c.from_residual.ensures.1 refused)) M
+    (stands-without M _ stood) judged)

@@ -19,5 +19,6 @@ pub returns-clause-ok : goal.returns-clause-ok
 returns-clause-ok c = λ M is.
     let items_are = c.self.view_is ∙ is in
     let waits = open-in M c.self.inside.pairing c.self.inside.judge.open_sid c.self.invariant items_are in
-    c.in_ok-take.ensures.ok M items_are (judged-after M (c.args.dir, c.args.message.now) c.take.result c.take.ensures.sent (c.take.ensures.step M waits))
+    c.in_ok-take.ensures.ok M items_are (judged-after M (c.args.dir, c.args.message.now) c.take.result c.take.ensures.sent
+    (c.take.ensures.step M waits))
     ∙ ap (λ y. meaning (M ++ y ∷ [])) c.take.ensures.sent

@@ -1,27 +1,41 @@
 -- One more frame, by what it says.
-use Rattle.std.proofs.Common.{[], ◌∷◌, ◌++◌, None, Some, slice_set, sym, ◌∙◌, ap, subst, rules}
-use Rattle.uds_find.specs.Finding.{FinderValue, IsTally, StandsAfter, TellsWaiting}
-use Rattle.uds_find.proofs.Standing.{stands-silent, tells-asked, tally-asked, tells-answered}
+use Rattle.std.proofs.Common.{◌≡◌, ◌==◌, None, Some, sym, ◌∙◌, ap, subst, rules, inr}
+use Rattle.std.specs.Prelude.{slice_index, slice_index_or}
+use Rattle.uds_find.specs.Credit.{credited_to}
+use Rattle.uds_find.specs.Finding.{number_at}
+use Rattle.uds_find.specs.proving.Steps.{IsAskedMore, IsCreditedTo}
+use Rattle.uds_find.specs.declared.pair.IdPair.{IdPair}
+use Rattle.uds_find.proofs.Results.{err_along, ok_along}
+use Rattle.uds_find.proofs.Standing.{credit-kept, stands-answered, stands-asked, stands-silent}
 use Rattle.uds_find.proofs.finder.Finder.take.Goals as goal
 
 pub returns-in-None-clause-ok : goal.returns-in-None-clause-ok
-returns-in-None-clause-ok c = λ frames small stands. stands-silent frames c.args.frame.now c.args.self.now (sym c.mention_of.ensures ∙ c.in-None.is) stands
+returns-in-None-clause-ok c = λ frames small stands.
+    stands-silent frames c.args.frame.now c.args.self.now (sym c.mention_of.ensures ∙ c.in-None.is) stands
 
 pub returns-in-Some-Asks-clause-ok : goal.returns-in-Some-Asks-clause-ok
-returns-in-Some-Asks-clause-ok c = λ frames small stands.
+returns-in-Some-Asks-clause-ok c = ok_along c.ask.result c.ask.ensures.ok (λ asked frames small stands.
     let said = sym c.mention_of.ensures ∙ c.in-Some-Asks.is ∙ ap Some c.in-Some-Asks.field-0-is in
-    let stood = subst (StandsAfter frames) (sym c.self.view_is) stands in record {
-      waiting = tells-asked frames c.args.frame.now c.self.inside.waiting c.in-Some-Asks.service c.id.result said c.id.ensures (search rules) stood.waiting;
-      tally = tally-asked frames c.args.frame.now c.self.inside.credits.entries c.in-Some-Asks.service said stood.tally;
-    }
+    stands-asked frames c.args.frame.now c.in-Some-Asks.service said (search rules) c.args.self.now c.ask.new.self small
+    (subst (λ asker. IsAskedMore c.in-Some-Asks.service asker c.args.self.now c.ask.new.self) c.id.ensures asked) stands)
 
-pub returns-in_ok-credit-in-Some-Answers-clause-ok : goal.returns-in_ok-credit-in-Some-Answers-clause-ok
-returns-in_ok-credit-in-Some-Answers-clause-ok c = λ frames small stands.
+pub returns-in-Some-Answers-clause-ok : goal.returns-in-Some-Answers-clause-ok
+returns-in-Some-Answers-clause-ok c = ok_along c.credit.result c.credit.ensures.ok (λ credited frames small stands.
     let said = sym c.mention_of.ensures ∙ c.in-Some-Answers.is ∙ ap Some c.in-Some-Answers.field-0-is in
-    let waits = ap (λ (f : FinderValue). f.waiting) c.self-in-Some-Answers.view_is in
-    let counts = ap (λ (f : FinderValue). f.credits) c.self-in-Some-Answers.view_is in record {
-      waiting = subst (λ waiting. TellsWaiting (frames ++ c.args.frame.now ∷ []) (slice_set waiting c.in-Some-Answers.service None)) (sym (waits ∙ c.credit.ensures.kept))
-          (tells-answered frames c.args.frame.now c.args.self.now.waiting c.in-Some-Answers.service said (search rules) stands.waiting);
-      tally = subst (IsTally (frames ++ c.args.frame.now ∷ [])) (sym counts)
-          (c.in_ok-credit-in-Some-Answers.ensures.ok frames c.args.frame.now small said (sym c.id-in-Some-Answers.ensures) stands);
-    }
+    let service = c.in-Some-Answers.service in
+    let old = c.args.self.now in
+    stands-answered frames c.args.frame.now service said (search rules) old c.credit.new.self small
+    (subst (λ unit. IsCreditedTo service unit
+    (credited_to (slice_index_or old.askers service None) unit
+    (number_at old.answered (record { unit = unit; service = service }) == slice_index old.askings service)) old c.credit.new.self)
+    c.id-in-Some-Answers.ensures credited) stands)
+
+pub returns-in-Some-Answers-clause-needs : goal.returns-in-Some-Answers-clause-needs
+returns-in-Some-Answers-clause-needs c = err_along c.credit.result c.credit.ensures.needs (λ needed frames stands.
+    let said = sym c.mention_of.ensures ∙ c.in-Some-Answers.is ∙ ap Some c.in-Some-Answers.field-0-is in
+    let service = c.in-Some-Answers.service in
+    let old = c.args.self.now in
+    let needs = subst (λ unit. (pair : IdPair) × (credited_to (slice_index_or old.askers service None) unit
+    (number_at old.answered (record { unit = unit; service = service }) == slice_index old.askings service) ≡ Some pair))
+    c.id-in-Some-Answers.ensures needed in
+    inr (needs.0, sym (credit-kept frames c.args.frame.now service said (search rules) old stands) ∙ needs.1))

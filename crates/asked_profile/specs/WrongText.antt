@@ -1,0 +1,39 @@
+-- What is told of a profile with which something is wrong.
+use Rattle.std.specs.Prelude.{ℕ, List, [], ◌++◌, codes, unwrap_or}
+use Rattle.std.specs.Fmt.{decimal}
+use Rattle.toml.specs.Data.{Members}
+use Rattle.line_text.specs.Clipped.{clipped, clipped_as_written}
+use Rattle.uds_rules.specs.declared.rule.RuleFault.{RuleFault}
+use Rattle.uds_rules.specs.declared.rule.RuleFault.TheVariants as rule_fault
+use Rattle.profile.specs.ProfileRules.{rule_text}
+use Rattle.profile.specs.Wrong.{WrongValue, unknown_key, not_strings, not_units, bad_rule, many_rules, shared, many_units, in_unit}
+use Rattle.profile.specs.declared.wrong.RuleKey.{RuleKey}
+use Rattle.profile.specs.declared.wrong.RuleKey.TheVariants as rule_key
+use Rattle.asked_profile.specs.UnitWrongText.{unit_number, unit_wrong_text}
+
+-- a key whose value is rules, as the profile has it
+abbrev pub rule_key_text : RuleKey → List ℕ
+rule_key_text rule_key.Drop = codes "drop"
+rule_key_text rule_key.Mask = codes "mask"
+
+-- why a text spells no rule
+abbrev pub rule_fault_text : RuleFault → List ℕ
+rule_fault_text rule_fault.NotAPattern = codes "not a pattern"
+rule_fault_text rule_fault.NothingMasked = codes "nothing is masked"
+rule_fault_text rule_fault.KindMasked = codes "3E and 7F can't be masked"
+rule_fault_text rule_fault.SubFunctionMasked = codes "a sub-function can't be masked"
+
+-- the rule at a place, in the order drops, masks, as the profile has it
+abbrev pub rule_at : ℕ → Members → List ℕ
+rule_at place document = clipped_as_written (unwrap_or (rule_text place document) [])
+
+-- what is told of a document with which this is wrong: keys and rules as it has them
+abbrev pub wrong_text : Members → WrongValue → List ℕ
+wrong_text document (unknown_key key) = clipped key ++ codes ": unknown key"
+wrong_text document (not_strings key) = rule_key_text key ++ codes ": not an array of strings"
+wrong_text document not_units = codes "unit: not written as [[unit]]"
+wrong_text document (bad_rule key text fault) = rule_key_text key ++ codes " " ++ clipped_as_written text ++ codes ": " ++ rule_fault_text fault
+wrong_text document many_rules = codes "more than 64 rules"
+wrong_text document (shared earlier later) = rule_at earlier document ++ codes " and " ++ rule_at later document ++ codes " are rules for one message"
+wrong_text document many_units = codes "more than 64 units"
+wrong_text document (in_unit place wrong) = codes "unit " ++ decimal (unit_number place) ++ codes ": " ++ unit_wrong_text wrong

@@ -1,0 +1,2 @@
+mod Printable
+pub mod Promises

@@ -1,0 +1,4 @@
+pub mod Quoted
+pub mod Clipped
+pub mod Laws
+pub mod proving

@@ -1,0 +1,7 @@
+mod Behind
+mod SpelledIdentifiers
+mod RightKeys
+mod OrderedRules
+mod LegalUnits
+mod LegalProfiles
+pub mod Promises

@@ -1,0 +1,10 @@
+pub mod Document
+pub mod UnitWrong
+pub mod Wrong
+pub mod Keys
+pub mod ProfileRules
+pub mod UnitKeys
+pub mod Units
+pub mod Profile
+pub mod Answers
+pub mod Laws

@@ -1,0 +1,96 @@
+-- The units of a profile, in their order.
+use Rattle.std.specs.Prelude.{ℕ, ◌+◌, ◌&&◌, ◌==◌, nat_lt, Bool, false, List, [], ◌∷◌, ◌++◌, codes, bytes_eq, length, Option, Some, None, option_map, option_and_then, Result, Ok, Err, if◌then◌else◌}
+use Rattle.std.specs.Option.{option_or}
+use Rattle.toml.specs.Data.{Items, no_items, item, Members, as_str, as_table, get_member}
+use Rattle.can_log.specs.declared.frame.Id.{Id}
+use Rattle.can_log.specs.declared.frame.Id.TheVariants as id
+use Rattle.profile.specs.Wrong.{WrongValue, many_units, in_unit}
+use Rattle.profile.specs.UnitWrong.{UnitWrongValue, missing, same_identifier, same_name, same_pair}
+use Rattle.profile.specs.UnitKeys.{identifier_of, wrong_unit_keys}
+use Rattle.profile.specs.ProfileRules.{items_at, item_count}
+use Rattle.profile.specs.declared.unit_wrong.UnitKey.TheVariants as unit_key
+
+-- A unit of a bench: its name, and the identifiers of the tester that asks it and of its own.
+pub record UnitValue : Type 0 where
+  pub name : List ℕ
+  pub tester : Id
+  pub unit : Id
+
+-- one format and one number
+abbrev pub is_same_identifier : Id → Id → Bool
+is_same_identifier (id.Std one) (id.Std other) = one == other
+is_same_identifier (id.Std one) (id.Ext other) = false
+is_same_identifier (id.Ext one) (id.Std other) = false
+is_same_identifier (id.Ext one) (id.Ext other) = one == other
+
+-- the text at a key, if one stands there
+abbrev pub text_at : List ℕ → Members → Option (List ℕ)
+text_at key table = option_and_then as_str (get_member key table)
+
+-- the identifier at a key, if one stands there
+abbrev pub identifier_at : List ℕ → Members → Option Id
+identifier_at key table = option_and_then identifier_of (text_at key table)
+
+-- a unit of these parts, or what is missing of it, or that both identifiers are one
+abbrev pub unit_of : Option (List ℕ) → Option Id → Option Id → Result UnitValue UnitWrongValue
+unit_of None tester unit = Err (missing unit_key.Name)
+unit_of (Some name) None unit = Err (missing unit_key.Tester)
+unit_of (Some name) (Some tester) None = Err (missing unit_key.Unit)
+unit_of (Some name) (Some tester) (Some unit) =
+    if is_same_identifier tester unit then Err same_identifier
+    else Ok (record { name = name; tester = tester; unit = unit })
+
+-- what a table says of a unit of which this is wrong
+abbrev pub unless_wrong : Option UnitWrongValue → Result UnitValue UnitWrongValue → Result UnitValue UnitWrongValue
+unless_wrong None unit = unit
+unless_wrong (Some wrong) unit = Err wrong
+
+-- the unit that a table says, or what is wrong with it by itself
+abbrev pub unit_in : Members → Result UnitValue UnitWrongValue
+unit_in table =
+    unless_wrong (wrong_unit_keys table)
+    (unit_of (text_at (codes "name") table) (identifier_at (codes "tester") table) (identifier_at (codes "unit") table))
+
+-- the place of the first unit of this name, if there is one
+abbrev pub place_of_name : List UnitValue → List ℕ → Option ℕ
+place_of_name [] name = None
+place_of_name (one ∷ units) name = if bytes_eq one.name name then Some 0 else option_map (λ place. place + 1) (place_of_name units name)
+
+-- the place of the first unit of these identifiers, if there is one
+abbrev pub place_of_pair : List UnitValue → Id → Id → Option ℕ
+place_of_pair [] tester unit = None
+place_of_pair (one ∷ units) tester unit =
+    if is_same_identifier one.tester tester && is_same_identifier one.unit unit then Some 0
+    else option_map (λ place. place + 1) (place_of_pair units tester unit)
+
+-- what is wrong with a unit beside earlier ones: its name, or else its identifiers, are those of one
+abbrev pub wrong_beside : List UnitValue → UnitValue → Option UnitWrongValue
+wrong_beside earlier unit =
+    option_or (option_map same_name (place_of_name earlier unit.name)) (option_map same_pair (place_of_pair earlier unit.tester unit.unit))
+
+-- a unit behind earlier ones of which this is wrong
+abbrev pub unless_beside : Option UnitWrongValue → List UnitValue → UnitValue → Result (List UnitValue) WrongValue
+unless_beside None earlier unit = Ok (earlier ++ unit ∷ [])
+unless_beside (Some wrong) earlier unit = Err (in_unit (length earlier) wrong)
+
+-- what a table says behind earlier units
+abbrev pub unit_behind : List UnitValue → Result UnitValue UnitWrongValue → Result (List UnitValue) WrongValue
+unit_behind earlier (Err wrong) = Err (in_unit (length earlier) wrong)
+unit_behind earlier (Ok unit) = unless_beside (wrong_beside earlier unit) earlier unit
+
+-- an element, if it is a table, behind what was read so far
+abbrev pub table_behind : Option Members → Result (List UnitValue) WrongValue → Result (List UnitValue) WrongValue
+table_behind None earlier = earlier
+table_behind (Some table) (Err wrong) = Err wrong
+table_behind (Some table) (Ok earlier) = unit_behind earlier (unit_in table)
+
+-- the elements of an array behind what was read so far, up to the first with which something is wrong
+abbrev pub units_behind : Items → Result (List UnitValue) WrongValue → Result (List UnitValue) WrongValue
+units_behind no_items earlier = earlier
+units_behind (item element rest) earlier = units_behind rest (table_behind (as_table element) earlier)
+
+-- the units of a profile, at most 64, or the first with which something is wrong
+abbrev pub profile_units : Members → Result (List UnitValue) WrongValue
+profile_units document =
+    if nat_lt 64 (item_count (items_at (codes "unit") document)) then Err many_units
+    else units_behind (items_at (codes "unit") document) (Ok [])

@@ -1,0 +1,33 @@
+//! What is wrong with one unit.
+
+/// A key of a unit. All are wanted.
+#[derive(Clone, Copy, Debug, PartialEq, Eq)]
+pub enum UnitKey {
+    /// `name`
+    Name,
+    /// `tester`, its identifier
+    Tester,
+    /// `unit`, its identifier
+    Unit,
+}
+
+/// What is wrong with one unit, with the words of the profile that a reader is told. They lie in the document.
+#[derive(Clone, Copy, Debug)]
+pub enum UnitWrong<'a> {
+    /// No key of a unit.
+    UnknownKey(&'a str),
+    /// The name is not 1 to 32 letters, digits, `-` and `_`.
+    NotAName,
+    /// The value of this key is not three or eight hexadecimal digits.
+    NoIdentifier(UnitKey),
+    /// No bus carries the identifier of this key.
+    OutOfRange(UnitKey),
+    /// This key is missing.
+    Missing(UnitKey),
+    /// Tester and unit have the same identifier.
+    SameIdentifier,
+    /// The unit at this place, from 0, has the same name, the first such one.
+    SameName(usize),
+    /// The unit at this place has the same two identifiers, the first such one.
+    SamePair(usize),
+}

@@ -1,0 +1,35 @@
+//! What is wrong in a profile.
+
+use crate::unit_wrong::UnitWrong;
+use uds_rules::RuleFault;
+
+/// A key whose value is rules.
+#[derive(Clone, Copy, Debug, PartialEq, Eq)]
+pub enum RuleKey {
+    /// `drop`: its elements are prefixes.
+    Drop,
+    /// `mask`: its elements are patterns.
+    Mask,
+}
+
+/// What is wrong in a profile, with the words of the profile that a reader is told. They lie in the document.
+#[derive(Clone, Copy, Debug)]
+pub enum Wrong<'a> {
+    /// No key of a profile.
+    UnknownKey(&'a str),
+    /// The value of this key is no array of strings.
+    NotStrings(RuleKey),
+    /// The units are no array of tables, as `[[unit]]` is.
+    NotUnits,
+    /// A text of this key spells no rule, for this reason.
+    BadRule(RuleKey, &'a str, RuleFault),
+    /// More than 64 rules.
+    ManyRules,
+    /// Two rules speak of one message: their places, from 0, in the order drops, masks
+    /// ([`rule_text`](crate::rule_text)).
+    Shared(usize, usize),
+    /// More than 64 units.
+    ManyUnits,
+    /// This is wrong with the unit at this place, from 0.
+    InUnit(usize, UnitWrong<'a>),
+}

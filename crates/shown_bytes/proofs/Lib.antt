@@ -1,0 +1,5 @@
+mod MarkedBytes
+mod BytesBehind
+mod WordPlaces
+mod ListedBytes
+mod Harmless

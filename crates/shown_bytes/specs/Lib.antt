@@ -1,0 +1,6 @@
+pub mod Letters
+pub mod StandardNames
+pub mod Data
+pub mod LogNames
+pub mod Laws
+pub mod proving

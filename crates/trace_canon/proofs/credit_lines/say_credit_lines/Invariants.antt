@@ -1,7 +1,0 @@
--- The credit lines so far were said.
-use Rattle.std.proofs.Common.{take}
-use Rattle.trace_canon.specs.CreditLines.{credit_lines_text}
-use Rattle.trace_canon.proofs.credit_lines.say_credit_lines.Given as goal
-
-abbrev pub invariant-lines : goal.invariant-lines
-invariant-lines g l = g.S.TextSink.says l.initial.out (credit_lines_text l.notation (take l.line-index l.lines)) l.out

@@ -1,6 +1,0 @@
--- The law is its lemma of columns that count.
-use Rattle.trace_pair.proofs.CountedBytes.{each_byte_is_counted}
-use Rattle.trace_pair.proofs.laws.each_byte_is_counted.Goals as goal
-
-pub returns : goal.returns
-returns c = each_byte_is_counted

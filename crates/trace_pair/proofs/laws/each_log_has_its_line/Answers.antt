@@ -1,6 +1,0 @@
--- The law is its lemma of lines.
-use Rattle.trace_pair.proofs.OwnLines.{each_log_has_its_line}
-use Rattle.trace_pair.proofs.laws.each_log_has_its_line.Goals as goal
-
-pub returns : goal.returns
-returns c = each_log_has_its_line

@@ -1,0 +1,10 @@
+pub mod Mask
+pub mod Rule
+pub mod Legal
+pub mod Under
+pub mod Pattern
+pub mod Answers
+pub mod Laws
+pub mod KeptLaws
+pub mod LegalLaws
+pub mod proving

@@ -1,0 +1,8 @@
+use Rattle.udsnorm.proofs.Configured.{of_values, value_of}
+use Rattle.udsnorm.proofs.settings.of_options.Goals as goal
+
+pub returns : goal.returns
+returns c =
+    let tester = value_of c.text_of.result _ c.unwrap_or-tester.result _ c.text_of.ensures c.unwrap_or-tester.ensures in
+    let unit = value_of c.text_of-2.result _ c.unwrap_or-unit.result _ c.text_of-2.ensures c.unwrap_or-unit.ensures in
+    of_values _ _ _ _ c.limit.result _ c.spelled.result tester unit c.limit.ensures c.spelled.ensures

@@ -1,0 +1,122 @@
+//! The profile that words name, as its file has it: it is read to its end before a log is opened.
+
+ghost use Rattle.std.specs.Prelude.{◌≡◌, [], map, string_bytes, true};
+ghost use Rattle.std.specs.Io.KnownBytes.{IsAtEnd};
+ghost use Rattle.clap.specs.Words.{found_of, rows_of, subcommand_rows_of};
+ghost use Rattle.trace_io.specs.Stream.{Gave};
+ghost use Rattle.udsnorm.specs.Commands.{command_in, words_or_normalise};
+ghost use Rattle.udsnorm.specs.Profiled.{IsSeen, IsSeenAt, IsSharedWith, WasRead, log_names};
+
+use crate::commands::{LEFT, LOG, OTHER, PROFILE, RIGHT};
+use crate::noticing::Noticing;
+use crate::opening::Opener;
+use crate::values::text_of;
+use crate::words::found;
+use clap::ArgMatches;
+use profile::LONGEST_PROFILE;
+use std::alloc::Global;
+use std::io::Read;
+use trace_io::Source;
+
+/// The name of a file that is standard input, where no log is named.
+pub(crate) const INPUT: &str = "/dev/stdin";
+
+/// How many bytes of a profile are asked for at once.
+const PIECE: usize = 4096;
+
+/// What is seen of the profile that words name. Where they name none it is not looked at.
+#[derive(Drop)]
+pub enum SeenProfile {
+    /// Its bytes: all, or more than a profile can have.
+    Read(Vec<u8>),
+    /// It can't be opened, or reading it failed.
+    Unread,
+    /// It is the pipe or the terminal that a log is to be read from.
+    Shared,
+    /// Memory was refused.
+    Memory,
+}
+
+/// Reads the profile that the words name.
+pub(crate) fn seen_profile<R: AllocGlobal + Opener>(rt: &R, words: &[String]) -> SeenProfile
+    ensures { IsSeen (R.says rt.now) ⟦<Noticing<R::Log> as Source>⟧ (command_in (words_or_normalise (map string_bytes words.now))) result }
+{
+    match found(rt.alloc(), words) {
+        Ok(matches) => seen_of(rt, &matches),
+        // Words that the parser does not take it will not take again.
+        Err(_) => SeenProfile::Memory,
+    }
+}
+
+/// Reads the profile of the command that the parser found.
+fn seen_of<R: AllocGlobal + Opener>(rt: &R, matches: &ArgMatches<'_>) -> SeenProfile
+    ensures { IsSeen (R.says rt.now) ⟦<Noticing<R::Log> as Source>⟧ (subcommand_rows_of matches.now) result }
+{
+    match matches.subcommand() {
+        Some((_, found)) => match text_of(found, PROFILE) {
+            Some(name) => seen_at(rt, name, found),
+            None => SeenProfile::Unread,
+        },
+        None => SeenProfile::Unread,
+    }
+}
+
+/// Reads the profile of this name, for a command with these files.
+fn seen_at<R: AllocGlobal + Opener>(rt: &R, name: &str, found: &ArgMatches<'_>) -> SeenProfile
+    ensures { IsSeenAt (R.says rt.now) ⟦<Noticing<R::Log> as Source>⟧ name.entry.now (rows_of (found_of found.now)) result }
+{
+    let Ok(name) = String::from_str(rt.alloc(), name) else {
+        return SeenProfile::Memory;
+    };
+    match rt.open_log(&name) {
+        Ok(file) => if is_of_a_log(rt, &file, found) {
+            SeenProfile::Shared
+        } else {
+            read_profile(rt.alloc(), &mut Noticing::new(file))
+        },
+        Err(_) => SeenProfile::Unread,
+    }
+}
+
+/// Whether a file is the pipe or the terminal that a log of the command is to be read from.
+fn is_of_a_log<R: Opener>(rt: &R, file: &R::Log, found: &ArgMatches<'_>) -> bool
+    ensures { result ≡ true → IsSharedWith (R.says rt.now) file.now (log_names (rows_of (found_of found.now))) }
+{
+    let first = text_of(found, LOG)
+        .or(text_of(found, LEFT))
+        .unwrap_or(INPUT);
+    let second = text_of(found, OTHER)
+        .or(text_of(found, RIGHT))
+        .unwrap_or(first);
+    rt.is_stream_of(file, first) || rt.is_stream_of(file, second)
+}
+
+/// Reads a profile to its end, or past the most bytes that one can have.
+fn read_profile<F: Read>(alloc: Global, file: &mut Noticing<F>) -> SeenProfile
+    requires reads { file.old.reads ≡ 0 }
+    requires failures { file.old.failures ≡ 0 }
+    requires given { file.old.given ≡ [] }
+    ensures gave { Gave file.old.given file.new.given (F.remaining file.old.inner) (F.remaining file.new.inner) }
+    ensures ended { (file.old.is_over ≡ true → IsAtEnd (F.remaining file.old.inner))
+        → file.new.is_over ≡ true → IsAtEnd (F.remaining file.new.inner) }
+    ensures was { WasRead ⟦<Noticing<F> as Source>⟧ file.old file.new result }
+{
+    let mut text = Vec::new(alloc);
+    let mut piece = [0; PIECE];
+    'pieces: for _ in 0..=LONGEST_PROFILE {
+        match file.read(&mut piece) {
+            Ok(0) => return SeenProfile::Read(text),
+            Ok(count) => {
+                if text.extend_from_slice(&piece[..count]).is_err() {
+                    return SeenProfile::Memory;
+                }
+                if text.len() > LONGEST_PROFILE {
+                    return SeenProfile::Read(text);
+                }
+            }
+            Err(_) => return SeenProfile::Unread,
+        }
+    }
+    // Each of these reads gave a byte.
+    SeenProfile::Read(text)
+}
