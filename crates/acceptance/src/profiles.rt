@@ -5,7 +5,7 @@ use profile::{ProfileFault, RuleKey, UnitKey, UnitWrong, Wrong, parse, profile_o
 use std::alloc::Global;
 use std::test::Fail;
 use toml::Table;
-use uds_rules::{Rule, RuleFault, Ruled, Rules, drop_rule, mask_rule};
+use uds_rules::{Rule, RuleFault, RuleTable, Ruled, Rules, drop_rule, mask_rule};
 
 /// A rule, a message, and what the rule makes of it, in digits; or why there is no such rule.
 const RULED: &str = "\
@@ -122,7 +122,7 @@ fn rules_of_one_message_are_refused(rt: HostRuntime) -> Result<(), Fail> {
     let alloc = rt.alloc();
     for row in lines_of(BESIDE) {
         let (prefixes, expected) = row.rsplit_once(' ').ok_or("nothing expected")?;
-        let mut rules = Rules::none();
+        let mut rules = RuleTable::none();
         let mut fault = String::new(alloc);
         for prefix in prefixes.split(' ') {
             let rule = drop_rule(prefix).ok().ok_or("no rule")?;
@@ -170,8 +170,9 @@ fn ruled(alloc: Global, rule: &str, message: &str) -> Result<String, Fail> {
         Ok(rule) => rule,
         Err(fault) => return Ok(shown(alloc, &fault)?),
     };
-    let mut rules = Rules::none();
-    rules.add(rule).ok().ok_or("no room")?;
+    let mut table = RuleTable::none();
+    table.add(rule).ok().ok_or("no room")?;
+    let rules = Rules::of_table(alloc, table)?;
     let message = bytes_of(alloc, message)?;
     let mut room = Vec::new(alloc);
     match rules.apply(&message, &mut room)? {

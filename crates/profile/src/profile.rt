@@ -38,9 +38,12 @@ pub fn profile_of<'a>(alloc: Global, document: &'a Table) -> Result<Profile, Pro
     if let Some(wrong) = wrong_keys(document) {
         return Err(ProfileFault::Wrong(wrong));
     }
-    let rules = match profile_rules(document) {
-        Ok(rules) => rules,
+    let table = match profile_rules(document) {
+        Ok(table) => table,
         Err(wrong) => return Err(ProfileFault::Wrong(wrong)),
+    };
+    let Ok(rules) = Rules::of_table(alloc, table) else {
+        return Err(ProfileFault::Memory);
     };
     match profile_units(alloc, document) {
         Ok(Ok(units)) => Ok(Profile { rules, units }),

@@ -12,11 +12,11 @@ use crate::keys::rule_in;
 use crate::wrong::{RuleKey, Wrong};
 use toml::Table;
 use toml::value::Array;
-use uds_rules::{MOST_RULES, Rule, Rules, RulesFault};
+use uds_rules::{MOST_RULES, Rule, RuleTable, RulesFault};
 
 /// The rules that a profile has, or what is wrong with them beside one another.
 #[tactic(auto, using(crate::proofs::Behind::stops))]
-pub(crate) fn profile_rules<'a>(document: &'a Table) -> Result<Rules, Wrong<'a>>
+pub(crate) fn profile_rules<'a>(document: &'a Table) -> Result<RuleTable, Wrong<'a>>
     ensures { seen_rules result ≡ Spec.profile_rules (table_view document.now) }
 {
     let drops = array_at(document, "drop");
@@ -24,7 +24,7 @@ pub(crate) fn profile_rules<'a>(document: &'a Table) -> Result<Rules, Wrong<'a>>
     if are_many(item_count(drops), item_count(masks)) {
         return Err(Wrong::ManyRules);
     }
-    let mut rules = Rules::none();
+    let mut rules = RuleTable::none();
     if let Some(wrong) = add_items(&mut rules, RuleKey::Drop, drops) {
         return Err(wrong);
     }
@@ -71,7 +71,7 @@ fn are_many(drops: usize, masks: usize) -> bool
 
 /// Adds the rules of an array, up to the first that can't stand beside the earlier ones.
 #[tactic(auto, using(crate::proofs::Behind::stops))]
-fn add_items<'a>(rules: &mut Rules, key: RuleKey, array: Option<&'a Array>) -> Option<Wrong<'a>>
+fn add_items<'a>(rules: &mut RuleTable, key: RuleKey, array: Option<&'a Array>) -> Option<Wrong<'a>>
     ensures { added result rules.new ≡ Spec.items_behind key (items_or_none (option_map (λ array. array_view array.now) array.entry)) (Ok rules.old) }
 {
     let Some(array) = array else {
@@ -86,7 +86,7 @@ fn add_items<'a>(rules: &mut Rules, key: RuleKey, array: Option<&'a Array>) -> O
 }
 
 /// Adds the rule of an element, if it is a text that spells one.
-fn add_item<'a>(rules: &mut Rules, key: RuleKey, text: Option<&'a str>) -> Option<Wrong<'a>>
+fn add_item<'a>(rules: &mut RuleTable, key: RuleKey, text: Option<&'a str>) -> Option<Wrong<'a>>
     ensures { added result rules.new ≡ Spec.item_behind key (option_map (λ text. text.now) text.entry) (Ok rules.old) }
 {
     match text {
@@ -99,7 +99,7 @@ fn add_item<'a>(rules: &mut Rules, key: RuleKey, text: Option<&'a str>) -> Optio
 }
 
 /// Adds a rule, or says what is wrong with it beside the earlier ones.
-fn add_rule<'a>(rules: &mut Rules, rule: Rule) -> Option<Wrong<'a>>
+fn add_rule<'a>(rules: &mut RuleTable, rule: Rule) -> Option<Wrong<'a>>
     ensures { added result rules.new ≡ Spec.rule_behind rules.old rule }
 {
     let count = rules.as_slice().len();

@@ -18,8 +18,8 @@ const LARGEST_BASE_ID: u16 = 0x7FF;
 const LARGEST_EXTENDED_ID: u32 = 0x1FFF_FFFF;
 
 /// The identifiers of the tester and the unit, the most bytes of a log and of its canonical log, and the rules that
-/// messages are under. The rules make it large: it is handed on by reference.
-#[derive(Clone, Copy, Debug, PartialEq, Eq)]
+/// messages are under.
+#[derive(Debug, Drop)]
 pub struct Config {
     /// The tester's identifier, and then the unit's.
     wanted: Wanted,
@@ -35,8 +35,6 @@ impl Model for Config {
     ghost view = { λ c. record { tester = c.wanted.first; unit = c.wanted.second; max_bytes = c.max_bytes; rules = c.rules } };
 
     ghost invariant = { λ c. AreSettings (record { tester = c.wanted.first; unit = c.wanted.second; max_bytes = c.max_bytes; rules = c.rules }) };
-
-    ghost inverse = { λ s. record { wanted = record { first = s.tester; second = s.unit }; max_bytes = s.max_bytes; rules = s.rules } };
 }
 
 impl Config {
@@ -66,22 +64,22 @@ impl Config {
     }
 
     /// This configuration with these rules in place of its own.
-    pub fn with_rules(&self, rules: &Rules) -> Config
-        ensures { result ≡ record self.now { rules = rules.now } }
+    pub fn with_rules(self, rules: Rules) -> Config
+        ensures { result ≡ record self { rules = rules } }
     {
         let _ = rules.as_slice();
-        Config {
-            wanted: self.wanted,
-            max_bytes: self.max_bytes,
-            rules: *rules,
-        }
+        Config { rules, ..self }
     }
 
     /// This configuration without rules.
     pub fn without_rules(&self) -> Config
         ensures { result ≡ without_rules self.now }
     {
-        self.with_rules(&Rules::none())
+        Config {
+            wanted: self.wanted,
+            max_bytes: self.max_bytes,
+            rules: Rules::none(),
+        }
     }
 
     /// The identifier of the frames that the tester sends.

@@ -34,7 +34,7 @@ module _ {A M W : Type 0} (machine : MachineGhosts M A) (target : TargetGhosts W
 
   -- a run begins with a receiver of the settings, over a telling that has told nothing
   pub begins_with : (settings : Settings) (machine_start : M) (telling : Telling M) (receiver : Receiver M W) (now : W)
-      → IsReceiverStart settings telling receiver.config receiver.pair receiver.lines receiver.counts receiver.telling
+      → IsReceiverStart settings telling receiver.config.now receiver.pair receiver.lines receiver.counts receiver.telling
       → HasToldNothing machine settings.rules machine_start telling → target.failures now ≤ 2 ^ 62
       → IsRunStart machine target settings machine_start (record { receiver = receiver; target = now })
   begins_with settings machine_start telling receiver now starts fresh low = record {

@@ -20,8 +20,8 @@ use trace_log::{Config, Fault, LineTaker, Summary};
 
 /// The receptions of a log, what was counted in it, and the machine that is told of it.
 #[derive(Drop)]
-pub(crate) struct Receiver<M, W> {
-    pub config: Config,
+pub(crate) struct Receiver<'a, M, W> {
+    pub config: &'a Config,
     pub pair: Pair,
     pub lines: u64,
     pub counts: Summary,
@@ -30,7 +30,7 @@ pub(crate) struct Receiver<M, W> {
     pub target: PhantomData<W>,
 }
 
-impl<M, W> Receiver<M, W> {
+impl<'a, M, W> Receiver<'a, M, W> {
     ghost use Rattle.std.specs.Prelude.{◌≡◌, ℕ, List, Option};
     ghost use Rattle.can_log.specs.declared.frame.Stamped.{Stamped};
     ghost use Rattle.isotp_receive.specs.Capacities.{new_pair};
@@ -43,13 +43,13 @@ impl<M, W> Receiver<M, W> {
     ghost use Rattle.trace_run.specs.proving.Ruling.{HasJudged};
 
     /// Before the first line, with a pair that has received no frame and keeps no memory.
-    pub(crate) fn start(config: &Config, pair: Pair, telling: Telling<M>) -> Receiver<M, W>
+    pub(crate) fn start(config: &'a Config, pair: Pair, telling: Telling<M>) -> Receiver<'a, M, W>
         requires { pair ≡ new_pair MESSAGE_LIMIT }
         ensures { IsReceiverStart config.now telling
-            result.config result.pair result.lines result.counts result.telling }
+            result.config.now result.pair result.lines result.counts result.telling }
     {
         Receiver {
-            config: *config,
+            config,
             pair,
             lines: 0,
             counts: Summary::nothing(),
@@ -87,7 +87,7 @@ impl<M, W> Receiver<M, W> {
     }
 }
 
-impl<M: Machine, W: Target> LineTaker for Receiver<M, W> {
+impl<'a, M: Machine, W: Target> LineTaker for Receiver<'a, M, W> {
     ghost use Rattle.std.specs.Prelude.{◌≡◌, true, false};
     ghost use Rattle.trace_run.specs.proving.Receiving.{HasSettled, HasStoppedAt, HasTaken, IsSureOf};
     ghost use Rattle.trace_run.specs.proving.Receiving.{of_pairs, stop_of_pairs};
@@ -105,7 +105,7 @@ impl<M: Machine, W: Target> LineTaker for Receiver<M, W> {
     ghost sure = { of_pairs (IsSureOf M.Machine W.Target) };
 
     // Of a receiver, the identifiers of the frames that it wants.
-    ghost wants = { λ receiver first second. (first ≡ receiver.config.tester) × (second ≡ receiver.config.unit) };
+    ghost wants = { λ receiver first second. (first ≡ receiver.config.now.tester) × (second ≡ receiver.config.now.unit) };
 
     #[inline(always)]
     fn wanted(&self) -> Option<&Wanted> {
@@ -133,7 +133,7 @@ impl<M: Machine, W: Target> LineTaker for Receiver<M, W> {
     }
 }
 
-impl<M: Machine, W: Target> Receiver<M, W> {
+impl<'a, M: Machine, W: Target> Receiver<'a, M, W> {
     ghost use Rattle.std.specs.Prelude.{◌≡◌, ◌^◌, ◌<◌, List, [], ◌∷◌, ◌++◌, length, OnOk, IfErr};
     ghost use Rattle.isotp_pdu.specs.Reading.{layout_of};
     ghost use Rattle.isotp_receive.specs.Capacities.{CapacitiesGrow};
@@ -165,7 +165,7 @@ impl<M: Machine, W: Target> Receiver<M, W> {
             → self.new.counts
             ≡ counted_more dir (verdict MESSAGE_LIMIT T (entry_at line stamped.now dir)) self.old.counts) }
         ensures told { (T : List Entry) → self.old.pair.receptions ≡ receptions_after MESSAGE_LIMIT T
-            → length T < 2 ^ 62 → TellsFrame M.Machine W.Target self.old.config.rules T (entry_at line stamped.now dir)
+            → length T < 2 ^ 62 → TellsFrame M.Machine W.Target self.old.config.now.rules T (entry_at line stamped.now dir)
             self.old.telling target.old result self.new.telling target.new }
     {
         // A `match`, here and in `Telling::take`: `?` in both cost 23 to 27 instructions a line (docs/PERF.md).
@@ -178,7 +178,7 @@ impl<M: Machine, W: Target> Receiver<M, W> {
                     event,
                 };
                 hand_on(
-                    &self.config,
+                    self.config,
                     &mut self.counts,
                     &mut self.telling,
                     target,

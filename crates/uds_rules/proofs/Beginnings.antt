@@ -1,18 +1,11 @@
 -- Messages that begin with the prefixes of rules.
 use Rattle.std.proofs.Common.{◌≡◌, ℕ, ◌≤◌, ◌==◌, ◌&&◌, true, List, [], ◌∷◌, length, take, Option, inl, inr, refl, ap, sym, ◌∙◌, subst, arith}
 use Rattle.std.proofs.lemmas.Bool.{and_parts, cases_Bool, eqb-true, false≢true}
-use Rattle.std.specs.Prelude.{nat_eq, IfSome}
-use Rattle.std.specs.List.{starts_with}
+use Rattle.std.specs.Prelude.{IfSome}
 use Rattle.uds_rules.specs.declared.rule.Deed.{Deed}
 use Rattle.uds_rules.specs.declared.rule.Deed.TheVariants as deed
 use Rattle.uds_rules.specs.Mask.{MaskValue}
 use Rattle.uds_rules.specs.Rule.{RuleValue, begins_with, speaks_of, mask_by, mask_of}
-
--- the test of the code
-pub begins_is : (prefix message : List ℕ) → starts_with nat_eq message prefix ≡ begins_with prefix message
-begins_is [] message = refl
-begins_is (byte ∷ prefix) [] = refl
-begins_is (byte ∷ prefix) (first ∷ message) = ap (λ rest. (byte == first) && rest) (begins_is prefix message)
 
 -- a message that begins with a prefix is as long, and has it in front
 pub prefix_within : (prefix message : List ℕ) → begins_with prefix message ≡ true → length prefix ≤ length message

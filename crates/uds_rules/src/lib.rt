@@ -16,10 +16,12 @@ mod mask;
 mod pattern;
 mod prefix;
 mod rule;
+mod rule_table;
 mod rules;
 
 pub use mask::{MOST_PLACES, Mask};
 pub use pattern::{drop_rule, mask_rule};
 pub use prefix::{MOST_PREFIX, Prefix};
 pub use rule::{Deed, Rule, RuleFault};
-pub use rules::{MOST_RULES, Ruled, Rules, RulesFault};
+pub use rule_table::{MOST_RULES, RuleTable};
+pub use rules::{Ruled, Rules, RulesFault};

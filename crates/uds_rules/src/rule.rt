@@ -2,13 +2,14 @@
 
 ghost use Rattle.std.specs.Prelude.{◌≡◌};
 ghost use Rattle.uds_rules.specs.Legal as Spec;
+ghost use Rattle.uds_rules.specs.Rule.{begins_with};
 
 use crate::mask::Mask;
 use crate::prefix::Prefix;
 use crate::rules::Ruled;
 use std::alloc::AllocError;
 use std::marker::Model;
-use uds_message::{has_sub_function, is_negative_response, sid};
+use uds_message::{has_sub_function, is_negative_response};
 
 /// The service identifier of TesterPresent.
 const TESTER_PRESENT: u8 = 0x3E;
@@ -120,13 +121,12 @@ impl Rule {
         }
     }
 
-    /// Whether it speaks of a message. Most that it doesn't speak of begin with another byte, and need no call.
+    /// Whether it speaks of a message.
     #[inline(always)]
-    #[tactic(auto, using(crate::proofs::Beginnings::begins_is))]
     pub fn speaks_of(&self, message: &[u8]) -> bool
         ensures { result ≡ speaks_of self.now message.now }
     {
-        self.prefix.first() == sid(message) && message.starts_with(self.prefix.bytes())
+        begins_with(self.prefix.bytes(), message)
     }
 
     /// Whether no message can begin with the prefixes of both.
@@ -150,6 +150,23 @@ impl Rule {
             }
         }
     }
+}
+
+/// Whether a message begins with these bytes. They are few, and most messages differ from the first of them: a call that
+/// compares memory costs more than the loop.
+#[inline(always)]
+fn begins_with(prefix: &[u8], message: &[u8]) -> bool
+    ensures { result ≡ begins_with prefix.now message.now }
+{
+    if prefix.len() > message.len() {
+        return false;
+    }
+    'bytes: for at in 0..prefix.len() {
+        if prefix[at] != message[at] {
+            return false;
+        }
+    }
+    true
 }
 
 /// Whether messages with this prefix can be masked: their later bytes don't tell what they are.

@@ -85,7 +85,7 @@ fn of_bytes(
     ensures { IsOfBytes file.entry.now (rows_of (found_of found.now)) text.now result }
 {
     match profile_in(alloc, text) {
-        Ok(profile) => of_profile(alloc, file, found, &profile),
+        Ok(profile) => of_profile(alloc, file, found, profile),
         Err(AskedFault::Wrong(wrong)) => Err(told_about(
             alloc,
             file,
@@ -100,11 +100,11 @@ fn of_profile(
     alloc: Global,
     file: &str,
     found: &ArgMatches<'_>,
-    profile: &Profile,
+    profile: Profile,
 ) -> Result<Config, WordsFault>
-    ensures { IsOfProfile file.entry.now (rows_of (found_of found.now)) (profile_value profile.now) result }
+    ensures { IsOfProfile file.entry.now (rows_of (found_of found.now)) (profile_value profile) result }
 {
-    if let Some(option) = side_beside(profile, found) {
+    if let Some(option) = side_beside(profile.units.as_slice(), found) {
         let line = (
             "--",
             option,
@@ -118,10 +118,10 @@ fn of_profile(
 }
 
 /// The first of the options for an identifier that is given, where units say what it says.
-fn side_beside(profile: &Profile, found: &ArgMatches<'_>) -> Option<&'static str>
-    ensures { option_map (λ t. t.now) result ≡ side_beside (map unit_value profile.now.units.items) (rows_of (found_of found.now)) }
+fn side_beside(units: &[ControlUnit], found: &ArgMatches<'_>) -> Option<&'static str>
+    ensures { option_map (λ t. t.now) result ≡ side_beside (map unit_value units.now) (rows_of (found_of found.now)) }
 {
-    if profile.units.is_empty() {
+    if units.is_empty() {
         return None;
     }
     if text_of(found, TESTER).is_some() {
@@ -138,15 +138,16 @@ fn of_choice(
     alloc: Global,
     file: &str,
     found: &ArgMatches<'_>,
-    profile: &Profile,
+    profile: Profile,
 ) -> Result<Config, WordsFault>
-    ensures { IsOfChoice file.entry.now (rows_of (found_of found.now)) (profile_value profile.now)
-        (chosen_of (map unit_value profile.now.units.items) (first_of (codes "only") (rows_of (found_of found.now)))) result }
+    ensures { IsOfChoice file.entry.now (rows_of (found_of found.now)) (profile_value profile)
+        (chosen_of (map unit_value profile.units.items) (first_of (codes "only") (rows_of (found_of found.now)))) result }
 {
+    let Profile { rules, units } = profile;
     let only = text_of(found, ONLY);
-    match chosen(profile.units.as_slice(), bytes_of(only)) {
-        Ok(sides) => under_rules(&profile.rules, of_sides(sides, found)),
-        Err(fault) => Err(told_choice(alloc, file, profile.units.as_slice(), only, fault)),
+    match chosen(units.as_slice(), bytes_of(only)) {
+        Ok(sides) => under_rules(rules, of_sides(sides, found)),
+        Err(fault) => Err(told_choice(alloc, file, units.as_slice(), only, fault)),
     }
 }
 
@@ -161,8 +162,8 @@ fn bytes_of(text: Option<&str>) -> Option<&[u8]>
 }
 
 /// The same configuration under rules.
-fn under_rules(rules: &Rules, plain: Result<Config, WordsFault>) -> Result<Config, WordsFault>
-    ensures { result ≡ under_rules rules.now plain }
+fn under_rules(rules: Rules, plain: Result<Config, WordsFault>) -> Result<Config, WordsFault>
+    ensures { result ≡ under_rules rules plain }
 {
     match plain {
         Ok(config) => Ok(config.with_rules(rules)),

@@ -59,10 +59,10 @@ pub(crate) fn config_given(alloc: Global, given: Given<'_>) -> Result<Config, No
     ensures { Configured (given_value given.entry) result }
 {
     if given.profile.is_empty() {
-        return config_under(alloc, given, &no_profile(alloc));
+        return config_under(alloc, given, no_profile(alloc));
     }
     match profile_in(alloc, given.profile) {
-        Ok(profile) => config_under(alloc, given, &profile),
+        Ok(profile) => config_under(alloc, given, profile),
         Err(AskedFault::Wrong(wrong)) => Err(NoConfig::Profile(wrong)),
         Err(AskedFault::Memory) => Err(NoConfig::Memory),
     }
@@ -79,28 +79,28 @@ fn no_profile(alloc: Global) -> Profile
 }
 
 /// The configuration under a profile.
-fn config_under(alloc: Global, given: Given<'_>, profile: &Profile) -> Result<Config, NoConfig>
-    ensures { ConfiguresProfile (given_value given.entry) (profile_value profile.now) result }
+fn config_under(alloc: Global, given: Given<'_>, profile: Profile) -> Result<Config, NoConfig>
+    ensures { ConfiguresProfile (given_value given.entry) (profile_value profile) result }
 {
-    let units = profile.units.as_slice();
+    let Profile { rules, units } = profile;
     let only = name_given(given.only);
-    match chosen(units, only) {
+    match chosen(units.as_slice(), only) {
         Ok(None) => {
             under(
-                &profile.rules,
+                rules,
                 identifier(given.tester),
                 identifier(given.unit),
                 given.limit,
             )
         }
-        Ok(Some(sides)) => under(&profile.rules, sides.tester, sides.unit, given.limit),
-        Err(fault) => Err(refused_choice(alloc, units, given.only, fault)),
+        Ok(Some(sides)) => under(rules, sides.tester, sides.unit, given.limit),
+        Err(fault) => Err(refused_choice(alloc, units.as_slice(), given.only, fault)),
     }
 }
 
 /// The configuration of two identifiers and a limit under rules.
-fn under(rules: &Rules, tester: Id, unit: Id, limit: u64) -> Result<Config, NoConfig>
-    ensures { ConfiguresUnder rules.now tester unit limit result }
+fn under(rules: Rules, tester: Id, unit: Id, limit: u64) -> Result<Config, NoConfig>
+    ensures { ConfiguresUnder rules tester unit limit result }
 {
     match Config::new(tester, unit, limit) {
         Ok(config) => Ok(config.with_rules(rules)),

@@ -33,14 +33,14 @@ stop_of_pairs Known before meanings what why now = Known (run_state before) mean
 -- The receiver has these settings, and received lines that mean this.
 pub record HasReceived {M W : Type 0} (settings : Settings) (meanings : List (Option Stamped)) (receiver : Receiver M W)
     : Type 0 where
-  pub config : receiver.config ≡ settings
+  pub config : receiver.config.now ≡ settings
   pub lines : Receives settings meanings receiver.pair receiver.lines receiver.counts
 
 module _ {A M W : Type 0} (machine : MachineGhosts M A) (target : TargetGhosts W) where
   -- A run begins so, with these settings and with the machine `machine_start`: nothing was received, nothing told, and
   -- the target's count of failures leaves room for one run.
   pub record IsRunStart (settings : Settings) (machine_start : M) (begun : RunState M W) : Type 0 where
-    pub config : begun.receiver.config ≡ settings
+    pub config : begun.receiver.config.now ≡ settings
     pub nothing : IsStart begun.receiver.pair begun.receiver.lines begun.receiver.counts
     pub fresh : HasToldNothing machine settings.rules machine_start begun.receiver.telling
     pub low : target.failures begun.target ≤ 2 ^ 62

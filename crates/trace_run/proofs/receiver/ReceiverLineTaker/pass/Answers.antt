@@ -9,7 +9,7 @@ pub returns-clause-takes : goal.returns-clause-takes
 returns-clause-takes g c = λ device one two stamped wants not_one not_two start meanings number took settings machine_start begun.
     let so_far = took settings machine_start begun in
     let self = c.args.self.now in
-    let foreign = foreign_direction self.config stamped.frame.id (λ same. not_one (same ∙ sym wants.0)) (λ same. not_two (same ∙ sym wants.1)) in
+    let foreign = foreign_direction self.config.now stamped.frame.id (λ same. not_one (same ∙ sym wants.0)) (λ same. not_two (same ∙ sym wants.1)) in
     let none : None ≡ direction_of settings stamped.frame.id = sym foreign ∙ ap (λ s. direction_of s stamped.frame.id) so_far.0.config in
     let same = trace_same_foreign settings meanings (Some stamped) stamped refl none in (
       record {

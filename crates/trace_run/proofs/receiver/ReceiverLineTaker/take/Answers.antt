@@ -33,7 +33,7 @@ returns-in_default-direction_of-clause-ok g c = λ start meanings number few too
     let self = c.args.self.now in
     let stamped = c.in-Some.stamped in
     let none : None ≡ direction_of settings stamped.frame.id =
-    sym c.in_default-direction_of.is ∙ c.direction_of.ensures ∙ ap (direction_of self.config) c.id.ensures
+    sym c.in_default-direction_of.is ∙ c.direction_of.ensures ∙ ap (direction_of self.config.now) c.id.ensures
     ∙ ap (λ s. direction_of s stamped.frame.id) so_far.0.config in
     let same = trace_same_foreign settings meanings c.args.what.now stamped c.in-Some.is none in (
       record {
@@ -54,7 +54,7 @@ returns-clause-ok g c =
     four_ok c.receive.result (λ stands grew counts taken start meanings number few took settings machine_start begun.
     let so_far = took settings machine_start begun in
     let direction : Some d ≡ direction_of settings stamped.frame.id =
-    sym c.in-Some-direction_of.is ∙ c.direction_of.ensures ∙ ap (direction_of self.config) c.id.ensures
+    sym c.in-Some-direction_of.is ∙ c.direction_of.ensures ∙ ap (direction_of self.config.now) c.id.ensures
     ∙ ap (λ s. direction_of s stamped.frame.id) so_far.0.config in
     let next = trace_next settings meanings c.args.what.now stamped d c.in-Some.is direction in
     let line : c.args.line ≡ 1 + length meanings = omega arith in
@@ -94,7 +94,7 @@ returns-clause-err g c =
       dir = d;
       means = c.in-Some.is;
       direction =
-          sym c.in-Some-direction_of.is ∙ c.direction_of.ensures ∙ ap (direction_of c.args.self.now.config) c.id.ensures
+          sym c.in-Some-direction_of.is ∙ c.direction_of.ensures ∙ ap (direction_of c.args.self.now.config.now) c.id.ensures
           ∙ ap (λ s. direction_of s stamped.frame.id) so_far.0.config;
       stopped =
           subst (λ (e : Entry). HasStopped g.M.Machine g.W.Target begins T e fault c.receive.new.self.telling c.receive.new.target) here

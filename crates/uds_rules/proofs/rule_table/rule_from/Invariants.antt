@@ -1,6 +1,6 @@
 use Rattle.std.proofs.Common.{◌≡◌, ◌+◌, drop, option_map}
 use Rattle.uds_rules.specs.Rule.{rule_of}
-use Rattle.uds_rules.proofs.rules.rule_from.Given as goal
+use Rattle.uds_rules.proofs.rule_table.rule_from.Given as goal
 
 abbrev pub invariant-rules : goal.invariant-rules
 invariant-rules l =

@@ -1,6 +1,6 @@
 use Rattle.std.proofs.Common.{◌≡◌, ◌+◌, drop, option_map}
 use Rattle.uds_rules.specs.Legal.{clash_in}
-use Rattle.uds_rules.proofs.rules.first_clash.Given as goal
+use Rattle.uds_rules.proofs.rule_table.first_clash.Given as goal
 
 abbrev pub invariant-rules : goal.invariant-rules
 invariant-rules l = record {

@@ -2,7 +2,7 @@
 use Rattle.std.proofs.Common.{sym, subst, ◌∙◌}
 use Rattle.uds_rules.specs.Answers.{IsRuled}
 use Rattle.uds_rules.proofs.RuleOf.{none_made, rule_found}
-use Rattle.uds_rules.proofs.rules.Rules.apply.Goals as goal
+use Rattle.uds_rules.proofs.rule_table.RuleTable.apply.Goals as goal
 
 pub make-requires : goal.make-requires
 make-requires c =

@@ -3,7 +3,7 @@ use Rattle.std.proofs.Common.{◌≡◌, ◌<◌, ◌==◌, not, false, take, ge
 use Rattle.uds_message.specs.Message.{sid}
 use Rattle.uds_rules.specs.Rule.{is_spoken_of, may_speak_of}
 use Rattle.uds_rules.proofs.FirstBytes.{first_is_noted, none_speaks, some_is_noted}
-use Rattle.uds_rules.proofs.rules.Rules.may_speak_of.Goals as goal
+use Rattle.uds_rules.proofs.rule_table.RuleTable.may_speak_of.Goals as goal
 
 pub returns-clause-value : goal.returns-clause-value
 returns-clause-value c =

@@ -2,7 +2,7 @@ use Rattle.std.proofs.Common.{◌≡◌, ◌+◌, set, get_or, sym, ap, ◌∙�
 use Rattle.uds_message.specs.Message.{sid}
 use Rattle.uds_rules.specs.proving.Held.{AreHeld, earlier, noted_one}
 use Rattle.uds_rules.proofs.Adding.{one_more_held}
-use Rattle.uds_rules.proofs.rules.Rules.add.Goals as goal
+use Rattle.uds_rules.proofs.rule_table.RuleTable.add.Goals as goal
 
 pub invariant_of-self : goal.invariant_of-self
 invariant_of-self c =

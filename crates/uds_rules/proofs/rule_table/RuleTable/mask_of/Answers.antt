@@ -2,7 +2,7 @@
 use Rattle.std.proofs.Common.{sym, ◌∙◌}
 use Rattle.uds_rules.proofs.Beginnings.{found_within}
 use Rattle.uds_rules.proofs.RuleOf.{none_made, rule_found}
-use Rattle.uds_rules.proofs.rules.Rules.mask_of.Goals as goal
+use Rattle.uds_rules.proofs.rule_table.RuleTable.mask_of.Goals as goal
 
 pub returns-in-Some-clause-value : goal.returns-in-Some-clause-value
 returns-in-Some-clause-value c =

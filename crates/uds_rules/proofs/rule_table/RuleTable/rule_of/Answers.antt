@@ -5,7 +5,7 @@ use Rattle.uds_message.specs.Message.{sid}
 use Rattle.uds_rules.specs.Rule.{rule_of}
 use Rattle.uds_rules.proofs.FirstBytes.{first_behind, first_is_noted, none_noted, rule_from_there}
 use Rattle.uds_rules.proofs.RuleOf.{told_within}
-use Rattle.uds_rules.proofs.rules.Rules.rule_of.Goals as goal
+use Rattle.uds_rules.proofs.rule_table.RuleTable.rule_of.Goals as goal
 
 pub returns-in-0-clause-value : goal.returns-in-0-clause-value
 returns-in-0-clause-value c =
