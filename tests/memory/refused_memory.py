@@ -89,8 +89,7 @@ OVER_TWO = {"compare": "compare", "pages": "report"}
 # Words that ask for no job, or for one that does not begin.
 WORDS = ["--help", "list --help", "lis", "list --limi 1", "list --limit x", "compare a", "list --tester 7E", "list --tester 800"]
 
-# How many growths the parser may swallow, whose answer is then the same: most where it looks for words to suggest. Words are first
-# read for the name of a profile, as often as then for what they ask: where they name none, nothing comes of what that is refused.
+# How many growths the parser may swallow, whose answer is then the same: most where it looks for words to suggest.
 MOST_SWALLOWED = 40
 
 
@@ -153,7 +152,7 @@ def job_refused(cases, refuser, name, words, begun, later):
 
 
 def are_of_words(told):
-    return set(told) <= {OUT_OF_MEMORY, None} and told.count(None) <= len(told) // 2 + MOST_SWALLOWED
+    return set(told) <= {OUT_OF_MEMORY, None} and told.count(None) <= MOST_SWALLOWED
 
 
 def in_short(told):

@@ -21,6 +21,7 @@ use Rattle.udsnorm.specs.declared.pair_jobs.PairJob.TheVariants as pair_job
 use Rattle.udsnorm.specs.Values.{page_name, shown_name}
 use Rattle.udsnorm.specs.Run.{RanOne, RanTwo}
 use Rattle.udsnorm.specs.Telling.{WroteText}
+use Rattle.udsnorm.specs.Words.{IsPlanned}
 use Rattle.udsnorm.specs.declared.commands.Job.{Job}
 use Rattle.udsnorm.specs.declared.pair_jobs.PairAnswer.{PairAnswer}
 use Rattle.udsnorm.specs.declared.pair_jobs.PairJob.{PairJob}
@@ -165,6 +166,16 @@ pub did_of_equal : {F R W E : Type 0} (says : Saying F → Type 0) (file : Sourc
     → Did says file source output errors other before old unsaid status known after new said → Did says file source output errors plan before old unsaid status known after new said
 did_of_equal says file source output errors plan other before old unsaid status known after new said same did =
     subst (λ (p : Plan). Did says file source output errors p before old unsaid status known after new said) (sym same) did
+
+-- what was done of what is asked for was done of all words that ask for it
+pub did_of_asked : {F R W E : Type 0} (says : Saying F → Type 0) (file : SourceGhosts (CountedReader F)) (source : SourceGhosts R) (output : TargetGhosts W) (errors : TargetGhosts E)
+    (asked other : Result Plan WordsFault) (before : R) (old : W) (unsaid : E) (status : ℕ) (known : Option Known) (after : R) (new : W) (said : E) → asked ≡ other
+    → DidAsked says file source output errors other before old unsaid status known after new said → (given : List Text) (seen : SeenProfile) → IsPlanned given seen asked
+    → DidWords says file source output errors given seen asked before old unsaid status known after new said
+did_of_asked says file source output errors asked other before old unsaid status known after new said same did given seen planned = record {
+  planned = planned;
+  did = subst (λ (a : Result Plan WordsFault). DidAsked says file source output errors a before old unsaid status known after new said) (sym same) did;
+}
 
 -- what was done of the words
 pub is_done : {F R W E : Type 0} (says : Saying F → Type 0) (file : SourceGhosts (CountedReader F)) (source : SourceGhosts R) (output : TargetGhosts W) (errors : TargetGhosts E) (given : List Text) (seen : SeenProfile) (asked : Result Plan WordsFault)

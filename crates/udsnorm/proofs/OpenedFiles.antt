@@ -1,13 +1,18 @@
 -- Files that were opened by their names, and what was read of a profile.
-use Rattle.std.proofs.Common.{◌≡◌, ℕ, [], List, inr, Option, Some, None, sym, subst, false, true}
+use Rattle.std.proofs.Common.{◌≡◌, ℕ, [], List, inr, Option, Some, None, Result, Ok, sym, subst, false, true}
+use Rattle.clap.specs.Simple.{subcommand_rows_of}
 use Rattle.clap.specs.Walk.{Row, Text, first_of}
 use Rattle.std.specs.Prelude.{codes}
 use Rattle.std.specs.Io.KnownBytes.{IsAtEnd}
+use Rattle.clap.specs.declared.error.Error.{Error}
+use Rattle.clap.specs.declared.parser.matches.ArgMatches.{ArgMatches}
 use Rattle.trace_io.specs.Counted.{CountedReader}
 use Rattle.trace_io.specs.Stream.{Gave}
 use Rattle.trace_io.specs.declared.device.Source.{Ghosts as SourceGhosts}
+use Rattle.udsnorm.specs.Commands.{command_in}
 use Rattle.udsnorm.specs.Opening.{Saying, opened, two_files}
 use Rattle.udsnorm.specs.Profiled.{IsSeen, IsSeenAt, IsSeenIn, IsUnread, WasRead}
+use Rattle.udsnorm.specs.Words.{AreParsedAs}
 use Rattle.udsnorm.specs.declared.profiled.SeenProfile.{SeenProfile}
 use Rattle.udsnorm.specs.declared.profiled.SeenProfile.TheVariants as seen
 
@@ -38,6 +43,13 @@ read_of says file name rows first last seen.Unread unread gave ended was =
     inr (record { opened = first; unread = unread; read = last; gave = gave; ended = ended; was = was })
 read_of says file name rows first last seen.Shared unread gave ended was = absurd was
 read_of says file name rows first last seen.Memory unread gave ended was = tt
+
+-- what is seen for the command that the parser found is seen for the words of which it says so
+pub seen_by : {F : Type 0} (says : Saying F → Type 0) (file : SourceGhosts (CountedReader F)) (words : List Text) (parsed : Result ArgMatches Error) (matches : ArgMatches) (what : SeenProfile)
+    → parsed ≡ Ok matches → IsSeen says file (subcommand_rows_of matches) what → AreParsedAs words parsed → IsSeen says file (command_in words) what
+seen_by says file words parsed matches what is seen said =
+    let taken : AreParsedAs words (Ok matches) = subst (AreParsedAs words) is said in
+    subst (λ found. IsSeen says file found what) taken.0 seen
 
 -- where memory is refused nothing is said
 memory_in : {F : Type 0} (says : Saying F → Type 0) (file : SourceGhosts (CountedReader F)) (name : Option Text) (rows : List Row) → IsSeenIn says file name rows seen.Memory

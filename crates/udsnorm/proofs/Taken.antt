@@ -1,5 +1,5 @@
 -- What the parser found in words that it takes, and what it says of others.
-use Rattle.std.proofs.Common.{◌≡◌, ◌≢◌, ◌∙◌, inl, inr, arith, ap, ap₂, sym, subst, refl, true≢false, Bool, true, false, List, [], ◌∷◌, length, map, Option, Result, is_some, codes}
+use Rattle.std.proofs.Common.{◌≡◌, ◌≢◌, ◌∙◌, inl, inr, arith, ap, ap₂, sym, subst, refl, true≢false, Bool, true, false, List, [], ◌∷◌, length, map, Option, Result, Ok, Err, is_some, codes}
 use Rattle.std.specs.Prelude.{IfOk, IsSome}
 use Rattle.std.proofs.lemmas.Result.{IfOk-weaker}
 use Rattle.clap.specs.Faults.{check_fault, defaults_fault, entered_fault, fault_of, is_simple_and_free, level_fault, settle_fault, walk_fault}
@@ -11,9 +11,11 @@ use Rattle.clap.specs.declared.error.Error.{Error}
 use Rattle.clap.specs.declared.error.kind.ErrorKind.TheVariants.{DisplayHelp, DisplayVersion, OutOfMemory}
 use Rattle.clap.specs.declared.parser.matches.ArgMatches.{ArgMatches}
 use Rattle.udsnorm.specs.Commands.{command_in, commands, refusals, words_or_normalise}
+use Rattle.udsnorm.specs.declared.job.Plan.{Plan}
 use Rattle.udsnorm.specs.declared.job.WordsFault.{WordsFault}
 use Rattle.udsnorm.specs.declared.job.WordsFault.TheVariants.{Help, Words, Identifier, Config, Profile, Unread, Memory}
-use Rattle.udsnorm.specs.Words.{IsCalled, IsRefusedBy}
+use Rattle.udsnorm.specs.declared.profiled.SeenProfile.{SeenProfile}
+use Rattle.udsnorm.specs.Words.{AreParsedAs, IsCalled, IsPlanned, IsPlannedFrom, IsRefusedBy}
 
 -- ---- a command is found in words that are taken, where one is needed
 
@@ -45,7 +47,7 @@ command_is_found app words needed taken =
     level_has_command (built app).top (names_of (built app)) nothing_held (argument_words app words) (is_some (subcommand_of app words))
     (entered_fault (built app) stop) needed taken
 
-pub program_command : (words : List Text) (found : Option (Text × List Row)) → found ≡ command_in words → refusals words ≡ [] → IsSome found
+program_command : (words : List Text) (found : Option (Text × List Row)) → found ≡ command_in words → refusals words ≡ [] → IsSome found
 program_command words found is taken = ap is_some is ∙ command_is_found commands words refl taken
 
 -- ---- what a parse of the program's commands gives
@@ -77,7 +79,7 @@ memory_is_not_help is = cc
 memory_is_not_version : OutOfMemory ≡ DisplayVersion → ⊥
 memory_is_not_version is = cc
 
-pub refused_by : (kinds : Kinds) (error : Error) (fault : WordsFault) → HasKind kinds error → IsCalled (kind_of error) fault → IsRefusedBy kinds fault
+refused_by : (kinds : Kinds) (error : Error) (fault : WordsFault) → HasKind kinds error → IsCalled (kind_of error) fault → IsRefusedBy kinds fault
 refused_by kinds error (Help text) (inl memory) (inl help) = absurd (memory_is_not_help (sym memory ∙ help))
 refused_by kinds error (Help text) (inl memory) (inr version) = absurd (memory_is_not_version (sym memory ∙ version))
 refused_by kinds error (Help text) (inr among) (inl help) = inl (subst (λ k. IsAmong k kinds) help among)
@@ -89,3 +91,18 @@ refused_by kinds error Identifier has called = called
 refused_by kinds error (Config reason) has called = called
 refused_by kinds error (Profile line) has called = called
 refused_by kinds error (Unread line) has called = called
+
+-- ---- what is planned of words, by what the parser says of them
+
+pub planned_by : (words : List Text) (seen : SeenProfile) (parsed : Result ArgMatches Error) (matches : ArgMatches) (result : Result Plan WordsFault) → parsed ≡ Ok matches
+    → (IsSome (subcommand_rows_of matches) → IsPlannedFrom (subcommand_rows_of matches) seen result) → AreParsedAs words parsed → IsPlanned words seen result
+planned_by words seen parsed matches result is planned says =
+    let taken : AreParsedAs words (Ok matches) = subst (AreParsedAs words) is says in
+    let some = program_command words (subcommand_rows_of matches) taken.0 taken.1 in
+    inl (taken.1, subst (λ found. IsPlannedFrom found seen result) taken.0 (planned some))
+
+pub refused_with : (words : List Text) (seen : SeenProfile) (parsed : Result ArgMatches Error) (error : Error) (fault : WordsFault) → parsed ≡ Err error
+    → IsCalled (kind_of error) fault → AreParsedAs words parsed → IsPlanned words seen (Err fault)
+refused_with words seen parsed error fault is called says =
+    let refused : AreParsedAs words (Err error) = subst (AreParsedAs words) is says in
+    inr (refused_by (refusals words) error fault refused.1 called)

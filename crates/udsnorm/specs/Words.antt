@@ -1,9 +1,12 @@
 -- What the commands and the texts of their options ask for.
-use Rattle.std.specs.Prelude.{◌≡◌, ◌≢◌, ◌⊎◌, ℕ, List, [], codes, Option, Some, None, option_map, Result, Ok, Err, ⊤, string_bytes, IsErrAnd}
-use Rattle.clap.specs.Kinds.{IsAmong, Kinds}
+use Rattle.std.specs.Prelude.{◌≡◌, ◌≢◌, ◌⊎◌, ℕ, List, [], codes, Option, Some, None, option_map, Result, Ok, Err, ⊤, string_bytes, IfOk, IsErrAnd}
+use Rattle.clap.specs.Kinds.{FailsBy, IsAmong, Kinds}
+use Rattle.clap.specs.Simple.{subcommand_rows_of}
 use Rattle.clap.specs.Walk.{Row, Text, first_of}
+use Rattle.clap.specs.declared.error.Error.{Error}
 use Rattle.clap.specs.declared.error.kind.ErrorKind.{ErrorKind}
 use Rattle.clap.specs.declared.error.kind.ErrorKind.TheVariants.{DisplayHelp, DisplayVersion, OutOfMemory}
+use Rattle.clap.specs.declared.parser.matches.ArgMatches.{ArgMatches}
 use Rattle.udsnorm.specs.Commands.{command_in, left_file, refusals, right_file, task_named}
 use Rattle.udsnorm.specs.Configured.{IsConfigured}
 use Rattle.udsnorm.specs.Shown.{IsShown}
@@ -68,6 +71,11 @@ IsRefusedBy kinds Identifier = ⊥
 IsRefusedBy kinds (Config fault) = ⊥
 IsRefusedBy kinds (Profile line) = ⊥
 IsRefusedBy kinds (Unread line) = ⊥
+
+-- what the parser says of the words: where it takes them, the command that it finds, and else an error of the kinds that it
+-- may have
+abbrev pub AreParsedAs : List Text → Result ArgMatches Error → Type 0
+AreParsedAs words parsed = IfOk parsed (λ m. subcommand_rows_of m ≡ command_in words) × FailsBy (refusals words) parsed
 
 -- what the words ask for, with what is seen of their profile: the parser takes them, and the plan is that of the command
 -- which it finds; or it does not

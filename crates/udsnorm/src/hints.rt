@@ -1,16 +1,18 @@
 //! Hints: a line behind the text of a run, for the person at the terminal.
 
-ghost use Rattle.std.specs.Prelude.{◌≡◌, ◌<◌, IfOk, OnOk, IfErr, true, false, map, string_bytes};
+ghost use Rattle.std.specs.Prelude.{◌≡◌, ◌<◌, IfOk, OnOk, IfErr, List, true, false, map, string_bytes};
+ghost use Rattle.clap.specs.Words.{Text};
 ghost use Rattle.trace_io.specs.Counted.{IsLowCount};
+ghost use Rattle.udsnorm.specs.Commands.{words_or_normalise};
 ghost use Rattle.udsnorm.specs.Hints.{GaveHint, IsHint, ToldAwaited, asks_for_hints, awaited_line, hint_of_plan};
+ghost use Rattle.udsnorm.specs.Words.{IsPlanned};
+ghost use Rattle.udsnorm.specs.declared.profiled.SeenProfile.{SeenProfile};
 
 use crate::advice::advice_for;
 use crate::ended::{Known, Run, name_of};
 use crate::hint_lines::HintLine;
 use crate::job::{Plan, WordsFault};
-use crate::profiled::SeenProfile;
 use crate::tell::tell_text;
-use crate::words::plan;
 use line_text::line_in;
 use std::alloc::{AllocError, Global};
 use std::rt::Files;
@@ -38,24 +40,18 @@ pub fn give_hint<R: AllocGlobal + Files, E: Target>(
     Ok(())
 }
 
-/// Tells that standard input is awaited, where the words ask for a job over it and this is to be told. Where the error
-/// output had failed before, it is left out.
+/// Tells that standard input is awaited, where a job over it is asked for and this is to be told. Where the error output had
+/// failed before, it is left out.
 #[tactic(auto, using(crate::proofs::Awaited::low_after))]
-pub fn tell_awaited<E: Target>(
-    alloc: Global,
-    words: &[String],
-    seen: &SeenProfile,
-    is_wanted: bool,
-    err: &mut E,
-)
-    ensures told { is_wanted ≡ true → E.failures err.old ≡ 0 → ToldAwaited E.Target (map string_bytes words.now) seen.now err.old err.new }
+pub fn tell_awaited<E: Target>(asked: &Result<Plan, WordsFault>, is_wanted: bool, err: &mut E)
+    ensures told { is_wanted ≡ true → E.failures err.old ≡ 0 → (given : List Text) (seen : SeenProfile) → IsPlanned (words_or_normalise given) seen asked.now
+        → ToldAwaited E.Target given seen err.old err.new }
     ensures failed { 0 < E.failures err.old → err.new ≡ err.old }
     ensures unwanted { is_wanted ≡ false → err.new ≡ err.old }
     ensures low { IsLowCount (E.failures err.old) → IsLowCount (E.failures err.new) }
 {
     if is_wanted && err.failures() == 0 {
-        let asked = plan(alloc, words, seen);
-        tell_text(awaited_line(&asked).as_bytes(), err);
+        tell_text(awaited_line(asked).as_bytes(), err);
     }
 }
 

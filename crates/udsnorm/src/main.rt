@@ -16,16 +16,20 @@ ghost use Rattle.std.specs.Prelude.{◌≡◌, ◌+◌, ◌≤◌, ◌&&◌, ◌
 ghost use Rattle.std.specs.Process.{exit_status};
 ghost use Rattle.trace_canon.specs.Compared.{fault_in};
 ghost use Rattle.trace_io.specs.Counted.{AreLowCounts, IsLowCount};
+ghost use Rattle.clap.specs.Words.{Text};
 ghost use Rattle.udsnorm.specs.Asked.{Did, DidFile, DidFiles, DidWords, IsDone, RanFiles, ToldWords};
 ghost use Rattle.isotp_receive.specs.declared.TheConstants.{MESSAGE_LIMIT};
 ghost use Rattle.udsnorm.specs.FaultLines.{side_line};
-ghost use Rattle.udsnorm.specs.Commands.{words_or_normalise};
+ghost use Rattle.udsnorm.specs.Commands.{command_in, words_or_normalise};
 ghost use Rattle.udsnorm.specs.Known.{knows_unopened};
 ghost use Rattle.udsnorm.specs.Opening.{opened, two_files};
 ghost use Rattle.udsnorm.specs.Hints.{asks_for_hints};
 ghost use Rattle.udsnorm.specs.Process.{Hinted, Served};
+ghost use Rattle.udsnorm.specs.Profiled.{IsSeen};
 ghost use Rattle.udsnorm.specs.Status.{status_of};
 ghost use Rattle.udsnorm.specs.Telling.{TookText};
+ghost use Rattle.udsnorm.specs.Words.{IsPlanned};
+ghost use Rattle.udsnorm.specs.declared.profiled.SeenProfile.{SeenProfile};
 
 mod advice;
 mod command;
@@ -56,11 +60,11 @@ use crate::job::{Plan, WordsFault};
 use crate::noticing::Noticing;
 use crate::opening::{OpenFault, Opener};
 use crate::pair_jobs::PairJob;
-use crate::profiled::{SeenProfile, seen_profile};
+use crate::profiled::seen_profile;
 use crate::run::{run_one, run_two};
 use crate::tell::{tell, tell_fault, tell_one_stream, tell_side};
 use crate::values::{page_name, shown_name};
-use crate::words::plan;
+use crate::words::{found, plan};
 use std::env::Env;
 use std::io::{ErrorKind, Input, IsTerminal, Print, Read};
 use std::process::ExitCode;
@@ -154,11 +158,24 @@ fn serve<R: AllocGlobal + Files + Opener, I: Read, W: Target, E: Target>(
     requires err { IsLowCount (E.failures err.old) }
     ensures served { Served (R.says rt.now) ⟦<Noticing<R::Log> as Source>⟧ ⟦<Noticing<I> as Source>⟧ W.Target E.Target (map string_bytes words.now) terminals input.old out.old err.old result input.new out.new err.new }
 {
-    let profile = seen_profile(rt, words);
-    tell_awaited(rt.alloc(), words, &profile, is_awaited(terminals), err);
-    let run = run_words(rt, words, &profile, input, out, err);
+    let asked = read_words(rt, words);
+    tell_awaited(&asked, is_awaited(terminals), err);
+    let end = run_words(rt, &asked, input, out, err);
+    let run = Run { asked, end };
     hint_where_wanted(rt, is_hinted(terminals, words), words, &run, err);
     run.end.status
+}
+
+/// What the words ask for, with what is seen of the profile that they name. The parser is asked once: what it finds is the
+/// name of the profile, and then all else.
+fn read_words<R: AllocGlobal + Opener>(rt: &R, words: &[String]) -> Result<Plan, WordsFault>
+    ensures asked { (seen : SeenProfile)
+        × IsSeen (R.says rt.now) ⟦<Noticing<R::Log> as Source>⟧ (command_in (words_or_normalise (map string_bytes words.now))) seen
+        × IsPlanned (words_or_normalise (map string_bytes words.now)) seen result }
+{
+    let parsed = found(rt.alloc(), words);
+    let profile = seen_profile(rt, &parsed);
+    plan(rt.alloc(), words, &parsed, &profile)
 }
 
 /// Whether somebody at a terminal may wait for the end of an input that is read there.
@@ -200,49 +217,37 @@ fn given_words<R: AllocGlobal + Env>(rt: &R) -> Result<Vec<String>, WordsFault> 
     }
 }
 
-/// Does what the words ask for, with what is seen of the profile that they name, over the input where they name no log.
-/// Answers that, and how it ended.
+/// Does what words ask for, over the input where they name no log. Answers how it ended.
 fn run_words<R: AllocGlobal + Opener, I: Read, W: Target, E: Target>(
     rt: &R,
-    words: &[String],
-    profile: &SeenProfile,
+    asked: &Result<Plan, WordsFault>,
     input: &mut Noticing<I>,
     out: &mut W,
     err: &mut E,
-) -> Run
+) -> End
     requires input { AreLowCounts input.old.reads (length input.old.given) input.old.failures }
     requires out { IsLowCount (W.failures out.old) }
     requires err { IsLowCount (E.failures err.old) }
 
-    // For each status: what the words and their profile ask for, what was done of it, from the input's reads to the output's writes and the
-    // error output's, and what is then known for a hint.
-    ensures run { DidWords (R.says rt.now) ⟦<Noticing<R::Log> as Source>⟧ ⟦<Noticing<I> as Source>⟧ W.Target E.Target (words_or_normalise (map string_bytes words.now)) profile.now result.asked input.old out.old err.old result.end.status result.end.known input.new out.new err.new }
+    // For each status, and of all words that ask for this with what is seen of their profile: what was done of it, from the
+    // input's reads to the output's writes and the error output's, and what is then known for a hint.
+    ensures run { (given : List Text) (seen : SeenProfile) → IsPlanned given seen asked.now
+        → DidWords (R.says rt.now) ⟦<Noticing<R::Log> as Source>⟧ ⟦<Noticing<I> as Source>⟧ W.Target E.Target given seen asked.now input.old out.old err.old result.status result.known input.new out.new err.new }
 
     // With status 0 it is done: the output's writes took what is asked for, of the bytes that the input's reads gave.
-    ensures done { result.end.status ≡ 0 → (log : List ℕ) → input.new.given ≡ input.old.given ++ log
-        → IsDone (R.says rt.now) ⟦<Noticing<R::Log> as Source>⟧ (words_or_normalise (map string_bytes words.now)) profile.now log (W.taken out.old) (W.taken out.new) }
-    ensures flushed { result.end.status ≡ 0 → W.is_flushed out.new ≡ true }
-    ensures once { result.end.status ≡ 0 → W.flushes out.new ≡ W.flushes out.old + 1 }
+    ensures done { (given : List Text) (seen : SeenProfile) → IsPlanned given seen asked.now
+        → result.status ≡ 0 → (log : List ℕ) → input.new.given ≡ input.old.given ++ log
+        → IsDone (R.says rt.now) ⟦<Noticing<R::Log> as Source>⟧ given seen log (W.taken out.old) (W.taken out.new) }
+    ensures flushed { result.status ≡ 0 → W.is_flushed out.new ≡ true }
+    ensures once { result.status ≡ 0 → W.flushes out.new ≡ W.flushes out.old + 1 }
     ensures flushes { W.flushes out.new ≤ W.flushes out.old + 1 }
 {
-    match plan(rt.alloc(), words, profile) {
-        Ok(plan) => {
-            let end = carry_out(rt, &plan, input, out, err);
-            Run {
-                asked: Ok(plan),
-                end,
-            }
-        }
-        Err(fault) => {
-            let status = tell(&fault, out, err);
-            Run {
-                asked: Err(fault),
-                end: End {
-                    status,
-                    known: None,
-                },
-            }
-        }
+    match asked {
+        Ok(plan) => carry_out(rt, plan, input, out, err),
+        Err(fault) => End {
+            status: tell(fault, out, err),
+            known: None,
+        },
     }
 }
 

@@ -1,18 +1,18 @@
 //! The profile that words name, as its file has it: it is read to its end before a log is opened.
 
-ghost use Rattle.std.specs.Prelude.{◌≡◌, [], map, string_bytes, true};
+ghost use Rattle.std.specs.Prelude.{◌≡◌, [], List, true};
 ghost use Rattle.std.specs.Io.KnownBytes.{IsAtEnd};
-ghost use Rattle.clap.specs.Words.{found_of, rows_of, subcommand_rows_of};
+ghost use Rattle.clap.specs.Words.{Text, found_of, rows_of, subcommand_rows_of};
 ghost use Rattle.trace_io.specs.Stream.{Gave};
-ghost use Rattle.udsnorm.specs.Commands.{command_in, words_or_normalise};
+ghost use Rattle.udsnorm.specs.Commands.{command_in};
 ghost use Rattle.udsnorm.specs.Profiled.{IsSeen, IsSeenAt, IsSharedWith, WasRead, log_names};
+ghost use Rattle.udsnorm.specs.Words.{AreParsedAs};
 
 use crate::commands::{LEFT, LOG, OTHER, PROFILE, RIGHT};
 use crate::noticing::Noticing;
 use crate::opening::Opener;
 use crate::values::text_of;
-use crate::words::found;
-use clap::ArgMatches;
+use clap::{ArgMatches, Error};
 use profile::LONGEST_PROFILE;
 use std::alloc::Global;
 use std::io::Read;
@@ -37,13 +37,16 @@ pub enum SeenProfile {
     Memory,
 }
 
-/// Reads the profile that the words name.
-pub(crate) fn seen_profile<R: AllocGlobal + Opener>(rt: &R, words: &[String]) -> SeenProfile
-    ensures { IsSeen (R.says rt.now) ⟦<Noticing<R::Log> as Source>⟧ (command_in (words_or_normalise (map string_bytes words.now))) result }
+/// Reads the profile that words name of which the parser says this.
+pub(crate) fn seen_profile<R: AllocGlobal + Opener>(
+    rt: &R,
+    parsed: &Result<ArgMatches<'_>, Error>,
+) -> SeenProfile
+    ensures seen { (words : List Text) → AreParsedAs words parsed.now → IsSeen (R.says rt.now) ⟦<Noticing<R::Log> as Source>⟧ (command_in words) result }
 {
-    match found(rt.alloc(), words) {
-        Ok(matches) => seen_of(rt, &matches),
-        // Words that the parser does not take it will not take again.
+    match parsed {
+        Ok(matches) => seen_of(rt, matches),
+        // Of words that the parser does not take nothing is planned.
         Err(_) => SeenProfile::Memory,
     }
 }
@@ -61,7 +64,8 @@ fn seen_of<R: AllocGlobal + Opener>(rt: &R, matches: &ArgMatches<'_>) -> SeenPro
     }
 }
 
-/// Reads the profile of this name, for a command with these files.
+/// Reads the profile of this name, for a command with these files. A run without one has no room for its pieces.
+#[inline(never)]
 fn seen_at<R: AllocGlobal + Opener>(rt: &R, name: &str, found: &ArgMatches<'_>) -> SeenProfile
     ensures { IsSeenAt (R.says rt.now) ⟦<Noticing<R::Log> as Source>⟧ name.entry.now (rows_of (found_of found.now)) result }
 {

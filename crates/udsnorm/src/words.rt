@@ -3,7 +3,7 @@
 ghost use Rattle.std.specs.Prelude.{◌≡◌, Some, None, IfOk, IfErr, IsSome, map, option_map, string_bytes};
 ghost use Rattle.clap.specs.Words.{FailsBy, found_of, kind_of, rows_of, subcommand_rows_of};
 ghost use Rattle.udsnorm.specs.Commands.{command_in, refusals, words_or_normalise};
-ghost use Rattle.udsnorm.specs.Words.{IsCalled, IsPlanOf, IsPlanned, IsPlannedFrom, IsRefusedFor};
+ghost use Rattle.udsnorm.specs.Words.{AreParsedAs, IsCalled, IsPlanOf, IsPlanned, IsPlannedFrom, IsRefusedFor};
 ghost use Rattle.udsnorm.specs.Shown.{IsShown};
 
 use crate::command::command;
@@ -21,15 +21,21 @@ use std::alloc::{AllocError, Global};
 /// What is meant where there are no words.
 static NO_WORDS: [&str; 1] = ["normalise"];
 
-/// What the words ask for, those after the program's name, with what is seen of the profile that they name.
-pub fn plan(alloc: Global, words: &[String], seen: &SeenProfile) -> Result<Plan, WordsFault>
-    // It is the plan of the command that the parser finds in the words, by what their profile asks for, or says why there is
-    // none.
-    ensures words { IsPlanned (words_or_normalise (map string_bytes words.now)) seen.now result }
+/// What the words ask for, those after the program's name, of which the parser says this, with what is seen of the profile
+/// that they name.
+pub fn plan(
+    alloc: Global,
+    words: &[String],
+    parsed: &Result<ArgMatches<'_>, Error>,
+    seen: &SeenProfile,
+) -> Result<Plan, WordsFault>
+    // Where that is what the parser says of them, it is the plan of the command that it finds in the words, by what their
+    // profile asks for, or says why there is none.
+    ensures words { AreParsedAs (words_or_normalise (map string_bytes words.now)) parsed.now → IsPlanned (words_or_normalise (map string_bytes words.now)) seen.now result }
 {
-    match found(alloc, words) {
-        Ok(matches) => planned(alloc, &matches, seen),
-        Err(error) => Err(refusal(alloc, words, &error)?),
+    match parsed {
+        Ok(matches) => planned(alloc, matches, seen),
+        Err(error) => Err(refusal(alloc, words, error)?),
     }
 }
 
@@ -100,15 +106,15 @@ fn text_of_error(alloc: Global, error: &Error) -> Result<String, AllocError>
 
 /// The plan of the command that the parser found.
 fn planned(alloc: Global, matches: &ArgMatches<'_>, seen: &SeenProfile) -> Result<Plan, WordsFault>
-    requires { IsSome (subcommand_rows_of matches.now) }
-    ensures from { IsPlannedFrom (subcommand_rows_of matches.now) seen.now result }
+    ensures from { IsSome (subcommand_rows_of matches.now) → IsPlannedFrom (subcommand_rows_of matches.now) seen.now result }
 {
     match matches.subcommand() {
         Some((name, found)) => match task_named(name, found) {
             Task::One(job) => plan_of_one(alloc, job, found, seen),
             Task::Two(job) => plan_of_two(alloc, job, found, seen),
         },
-        None => unreachable!(),
+        // The parser asks for a command.
+        None => Err(WordsFault::Words(String::new(alloc))),
     }
 }
 

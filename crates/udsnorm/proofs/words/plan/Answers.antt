@@ -1,9 +1,17 @@
-use Rattle.std.proofs.Common.{inr}
-use Rattle.udsnorm.proofs.Taken.{program_command, refused_by}
+use Rattle.std.proofs.Common.{map}
+use Rattle.std.specs.Prelude.{string_bytes}
+use Rattle.udsnorm.specs.Commands.{words_or_normalise}
+use Rattle.udsnorm.proofs.Taken.{planned_by, refused_with}
 use Rattle.udsnorm.proofs.words.plan.Goals as goal
 
-pub planned-requires : goal.planned-requires
-planned-requires c = program_command _ _ c.in-Ok.ensures.matches c.in-Ok.ensures.kinds
+pub returns-in-Ok : goal.returns-in-Ok
+returns-in-Ok c = record {
+  words = planned_by (words_or_normalise (map string_bytes c.args.words.now)) c.args.seen.now c.args.parsed.now c.in-Ok.matches c.planned.result c.in-Ok.is c.planned.ensures.from;
+}
 
 pub returns-in_ok-refusal-in-Err : goal.returns-in_ok-refusal-in-Err
-returns-in_ok-refusal-in-Err c = record { words = inr (refused_by _ c.in-Err.error c.in_ok-refusal-in-Err.field-0 c.in-Err.ensures.kinds c.in_ok-refusal-in-Err.ensures) }
+returns-in_ok-refusal-in-Err c = record {
+  words =
+      refused_with (words_or_normalise (map string_bytes c.args.words.now)) c.args.seen.now c.args.parsed.now c.in-Err.error c.in_ok-refusal-in-Err.field-0 c.in-Err.is
+      c.in_ok-refusal-in-Err.ensures;
+}
