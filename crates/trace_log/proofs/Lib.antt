@@ -2,6 +2,7 @@ pub mod Results
 pub mod Limits
 pub mod Directions
 pub mod Traces
+mod RuledCounts
 pub mod LogLines
 pub mod OneMoreFrame
 pub mod Announcements

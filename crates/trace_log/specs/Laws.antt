@@ -1,5 +1,5 @@
 -- What holds of what logs mean, of why they are refused, and of canonical logs.
-use Rattle.std.specs.Prelude.{◌≡◌, ◌↔◌, ◌≤◌, ◌<◌, ◌^◌, ℕ, ◌+◌, ◌-◌, ◌*◌, Bool, true, List, [], ◌++◌, length, map, Option, Some, None, Result, Ok, Err}
+use Rattle.std.specs.Prelude.{◌≡◌, ◌↔◌, ◌≤◌, ◌<◌, ◌^◌, ℕ, ◌+◌, ◌-◌, ◌*◌, Bool, true, false, List, [], ◌++◌, length, map, Option, Some, None, Result, Ok, Err}
 use Rattle.std.specs.List.{AllByRecursion}
 use Rattle.can_log.specs.Canonical.{canonical_length}
 use Rattle.direction.specs.Dir.{Message}
@@ -67,6 +67,20 @@ abbrev pub NoRulesChangeNothing : Type 0
 NoRulesChangeNothing = (limit : ℕ) (settings : Settings) (log : List ℕ) (meanings : List (Option Stamped)) → settings.rules ≡ []
     → (messages_of_lines limit settings meanings ≡ messages limit (trace settings meanings))
     × ((summary_of limit settings log meanings).left_out ≡ 0)
+
+-- what a summary counts of a log as it is, before any rule: all but what is counted of the messages that rules leave
+abbrev pub counted_as_it_is : Summary → Summary
+counted_as_it_is summary = record summary { pending = 0; left_out = 0; looks_exchanged = false }
+
+-- the frames of a log, and what became of them, are counted as without rules
+abbrev pub CountsKnowNoRules : Type 0
+CountsKnowNoRules = (limit : ℕ) (settings : Settings) (log : List ℕ) (meanings : List (Option Stamped))
+    → counted_as_it_is (summary_of limit settings log meanings) ≡ counted_as_it_is (summary_of limit (without_rules settings) log meanings)
+
+-- so a log is clean, as `--strict` asks it, exactly where it is without rules
+abbrev pub CleanKnowsNoRules : Type 0
+CleanKnowsNoRules = (limit : ℕ) (settings : Settings) (log : List ℕ) (meanings : List (Option Stamped))
+    → is_clean (summary_of limit settings log meanings) ≡ is_clean (summary_of limit (without_rules settings) log meanings)
 
 -- where no rule leaves messages out, the meaning under the rules is the meaning, item by item under them
 abbrev pub MasksKeepItems : Type 0

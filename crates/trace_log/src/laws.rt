@@ -1,5 +1,5 @@
 //! What holds of what logs mean, of why they are refused, and of canonical logs.
-ghost use Rattle.trace_log.specs.Laws.{DirectionIsById, OutcomeIsThere, OutcomeIsOne, NoRulesChangeNothing, MasksKeepItems, CanonicalIsCanonical, SameMeaningSameText, RecordingHasCanonicalLog, CleanSummaryIsCertificate, CleanLogIsRecording, CleanLogHasBothSides, FramesAreOfTwoSides, PendingAreTheRest, EarlyTextStays, EarlyTextGrows, LinesReadAreThere, LinesReadAreOne, ReadingIsThere, ReadingIsOne, FittingIsLongest, FaultLeavesFront, LongestMessage, LargestLimit, ReadsByPieces, WritesByPieces, CanonicalLogLength, CanonicalLogLengthBySides, BadLineIsLowest, OversizeIsLowest, LargerLimitKeeps, SummaryCertifies, CertificateKnowsNoRules};
+ghost use Rattle.trace_log.specs.Laws.{DirectionIsById, OutcomeIsThere, OutcomeIsOne, NoRulesChangeNothing, CountsKnowNoRules, CleanKnowsNoRules, MasksKeepItems, CanonicalIsCanonical, SameMeaningSameText, RecordingHasCanonicalLog, CleanSummaryIsCertificate, CleanLogIsRecording, CleanLogHasBothSides, FramesAreOfTwoSides, PendingAreTheRest, EarlyTextStays, EarlyTextGrows, LinesReadAreThere, LinesReadAreOne, ReadingIsThere, ReadingIsOne, FittingIsLongest, FaultLeavesFront, LongestMessage, LargestLimit, ReadsByPieces, WritesByPieces, CanonicalLogLength, CanonicalLogLengthBySides, BadLineIsLowest, OversizeIsLowest, LargerLimitKeeps, SummaryCertifies, CertificateKnowsNoRules};
 
 /// A frame has a direction exactly where its identifier is that of the direction.
 pub fn direction_is_by_id()
@@ -19,6 +19,13 @@ pub fn outcome_is_one()
 /// Without rules a log has the messages that its trace delivers, and none is left out.
 pub fn no_rules_change_nothing()
     ensures { NoRulesChangeNothing }
+{}
+
+/// The frames of a log, and what became of them, are counted as without rules; so a log is clean exactly where it is without
+/// rules.
+pub fn counts_know_no_rules()
+    ensures counts { CountsKnowNoRules }
+    ensures clean { CleanKnowsNoRules }
 {}
 
 /// Where no rule leaves messages out, the meaning under the rules is the meaning, item by item under them.

@@ -11,7 +11,7 @@ use Rattle.trace_io.specs.Stream.{Gave}
 use Rattle.trace_io.specs.declared.device.Source.{Ghosts as SourceGhosts}
 use Rattle.udsnorm.specs.Commands.{command_in}
 use Rattle.udsnorm.specs.Opening.{Saying, opened, two_files}
-use Rattle.udsnorm.specs.Profiled.{IsSeen, IsSeenAt, IsSeenIn, IsUnread, WasRead}
+use Rattle.udsnorm.specs.Profiled.{IsApartFrom, IsSeen, IsSeenAt, IsSeenIn, IsUnread, WasRead, log_names}
 use Rattle.udsnorm.specs.Words.{AreParsedAs}
 use Rattle.udsnorm.specs.declared.profiled.SeenProfile.{SeenProfile}
 use Rattle.udsnorm.specs.declared.profiled.SeenProfile.TheVariants as seen
@@ -27,6 +27,9 @@ fresh log = record { inner = log; reads = 0; failures = 0; is_over = false; give
 pub opened_as : {F : Type 0} (says : Saying F → Type 0) {name : List ℕ} {log : F} {reader : CountedReader F} → reader ≡ fresh log → says (opened name log) → says (opened name reader.inner)
 opened_as {F} says {name} is told = subst (λ (r : CountedReader F). says (opened name r.inner)) (sym is) told
 
+pub apart_as : {F : Type 0} (says : Saying F → Type 0) {names : List Text} {log : F} {reader : CountedReader F} → reader ≡ fresh log → IsApartFrom says log names → IsApartFrom says reader.inner names
+apart_as {F} says {names} is told = subst (λ (r : CountedReader F). IsApartFrom says r.inner names) (sym is) told
+
 pub two_files_as : {F : Type 0} (says : Saying F → Type 0) {one other : F} {left right : CountedReader F} → left ≡ fresh one → right ≡ fresh other
     → says (two_files one other) → says (two_files left.inner right.inner)
 two_files_as {F} says {one} {other} {left} is_left is_right told =
@@ -34,15 +37,16 @@ two_files_as {F} says {one} {other} {left} is_left is_right told =
 
 -- what was read of a file that was opened by this name is seen of it
 pub read_of : {F : Type 0} (says : Saying F → Type 0) (file : SourceGhosts (CountedReader F)) (name : Text) (rows : List Row) (first last : CountedReader F) (what : SeenProfile)
-    → IsUnread says file name first → Gave (file.given first) (file.given last) (file.remaining first) (file.remaining last)
+    → IsUnread says file name first → IsApartFrom says first.inner (log_names rows)
+    → Gave (file.given first) (file.given last) (file.remaining first) (file.remaining last)
     → ((file.is_over first ≡ true → IsAtEnd (file.remaining first)) → file.is_over last ≡ true → IsAtEnd (file.remaining last))
     → WasRead file first last what → IsSeenAt says file name rows what
-read_of says file name rows first last (seen.Read text) unread gave ended was =
-    record { opened = first; unread = unread; read = last; gave = gave; ended = ended; was = was }
-read_of says file name rows first last seen.Unread unread gave ended was =
-    inr (record { opened = first; unread = unread; read = last; gave = gave; ended = ended; was = was })
-read_of says file name rows first last seen.Shared unread gave ended was = absurd was
-read_of says file name rows first last seen.Memory unread gave ended was = tt
+read_of says file name rows first last (seen.Read text) unread apart gave ended was =
+    record { opened = first; unread = unread; apart = apart; read = last; gave = gave; ended = ended; was = was }
+read_of says file name rows first last seen.Unread unread apart gave ended was =
+    inr (record { opened = first; unread = unread; apart = apart; read = last; gave = gave; ended = ended; was = was })
+read_of says file name rows first last seen.Shared unread apart gave ended was = absurd was
+read_of says file name rows first last seen.Memory unread apart gave ended was = tt
 
 -- what is seen for the command that the parser found is seen for the words of which it says so
 pub seen_by : {F : Type 0} (says : Saying F → Type 0) (file : SourceGhosts (CountedReader F)) (words : List Text) (parsed : Result ArgMatches Error) (matches : ArgMatches) (what : SeenProfile)

@@ -32,7 +32,7 @@ pub record Hinted {E : Type 0} (errors : TargetGhosts E) (is_wanted : Bool) (ask
 -- What the words ask for was done, with this exit status, and its hint was given. Nothing was written beside.
 pub record Served {F R W E : Type 0} (says : Saying F → Type 0) (file : SourceGhosts (CountedReader F)) (source : SourceGhosts R) (output : TargetGhosts W) (errors : TargetGhosts E) (given : List Text)
     (terminals : Terminals) (before : R) (old : W) (unsaid : E) (status : ℕ) (after : R) (new : W) (said : E) : Type 0 where
-  -- what was seen of the profile that the words name, before anything else was read
+  -- what was seen of the profile that the words name
   pub seen : SeenProfile
   pub profile : IsSeen says file (command_in (words_or_normalise given)) seen
   pub asked : Result Plan WordsFault

@@ -6,7 +6,7 @@ use Rattle.clap.specs.Walk.{Row, Text, first_of}
 use Rattle.trace_io.specs.Counted.{CountedReader}
 use Rattle.trace_io.specs.Stream.{Gave}
 use Rattle.trace_io.specs.declared.device.Source.{Ghosts as SourceGhosts}
-use Rattle.udsnorm.specs.Opening.{Saying, opened, refused, shared}
+use Rattle.udsnorm.specs.Opening.{Saying, apart, opened, refused, shared}
 use Rattle.udsnorm.specs.declared.opening.OpenFault.{OpenFault}
 use Rattle.udsnorm.specs.declared.profiled.SeenProfile.{SeenProfile}
 use Rattle.udsnorm.specs.declared.profiled.SeenProfile.TheVariants as seen
@@ -16,7 +16,7 @@ pub record IsUnread {F : Type 0} (says : Saying F → Type 0) (file : SourceGhos
   pub by_name : says (opened name log.inner)
   pub from_start : file.given log ≡ []
 
--- the names of the files that a command reads: standard input's where none is named
+-- The names of both files that a command reads. Where it reads one, that is named twice; where none is named, it is standard input.
 abbrev pub log_names : List Row → List Text
 log_names rows =
     let first = unwrap_or (option_or (first_of (codes "LOG") rows) (first_of (codes "A") rows)) (codes "/dev/stdin") in
@@ -27,6 +27,11 @@ abbrev pub IsSharedWith : {F : Type 0} → (Saying F → Type 0) → F → List 
 IsSharedWith says file [] = ⊥
 IsSharedWith says file (name ∷ names) = says (shared file name) ⊎ IsSharedWith says file names
 
+-- a file is one stream with none of these names
+abbrev pub IsApartFrom : {F : Type 0} → (Saying F → Type 0) → F → List Text → Type 0
+IsApartFrom says file [] = ⊤
+IsApartFrom says file (name ∷ names) = says (apart file name) × IsApartFrom says file names
+
 -- The reads gave all of a file, or more than a profile can have, by one piece at most; or one failed since it was opened.
 abbrev pub WasRead : {F : Type 0} → SourceGhosts (CountedReader F) → CountedReader F → CountedReader F → SeenProfile → Type 0
 WasRead file first read (seen.Read text) =
@@ -35,10 +40,11 @@ WasRead file first read seen.Unread = file.failures first < file.failures read
 WasRead file first read seen.Shared = ⊥
 WasRead file first read seen.Memory = ⊤
 
--- What was read of the file that was opened by this name, from its first byte.
-pub record ReadFile {F : Type 0} (says : Saying F → Type 0) (file : SourceGhosts (CountedReader F)) (name : Text) (what : SeenProfile) : Type 0 where
+-- What was read of the file that was opened by this name, from its first byte. It is one stream with none of the logs.
+pub record ReadFile {F : Type 0} (says : Saying F → Type 0) (file : SourceGhosts (CountedReader F)) (name : Text) (logs : List Text) (what : SeenProfile) : Type 0 where
   pub opened : CountedReader F
   pub unread : IsUnread says file name opened
+  pub apart : IsApartFrom says opened.inner logs
   pub read : CountedReader F
   -- where the file tells the bytes to come, it gave these, and none is left at its end
   pub gave : Gave (file.given opened) (file.given read) (file.remaining opened) (file.remaining read)
@@ -51,8 +57,8 @@ IsRefusedFile says name = (fault : OpenFault) × says (refused name fault)
 
 -- what is seen of the profile of this name by a command with these options and files
 abbrev pub IsSeenAt : {F : Type 0} → (Saying F → Type 0) → SourceGhosts (CountedReader F) → Text → List Row → SeenProfile → Type 0
-IsSeenAt says file name rows (seen.Read text) = ReadFile says file name (seen.Read text)
-IsSeenAt says file name rows seen.Unread = IsRefusedFile says name ⊎ ReadFile says file name seen.Unread
+IsSeenAt says file name rows (seen.Read text) = ReadFile says file name (log_names rows) (seen.Read text)
+IsSeenAt says file name rows seen.Unread = IsRefusedFile says name ⊎ ReadFile says file name (log_names rows) seen.Unread
 IsSeenAt {F} says file name rows seen.Shared = (one : F) × says (opened name one) × IsSharedWith says one (log_names rows)
 IsSeenAt says file name rows seen.Memory = ⊤
 

@@ -1,7 +1,7 @@
 //! The files of logs, opened by their names.
 
 ghost use Rattle.std.specs.Prelude.{◌≡◌, MatchResult, false, string_bytes, true};
-ghost use Rattle.udsnorm.specs.Opening.{Saying, one_stream, opened, refused, shared, two_files};
+ghost use Rattle.udsnorm.specs.Opening.{Saying, apart, one_stream, opened, refused, shared, two_files};
 
 use crate::stream::{is_one_stream, is_stream_with};
 use std::fs::{self, OpenFile};
@@ -39,7 +39,8 @@ pub trait Opener {
 
     /// Whether a file is one stream with that of this name, which is not opened for this.
     fn is_stream_of(&self, file: &Self::Log, name: &str) -> bool
-        ensures { result ≡ true → says self.now (shared file.now name.now) };
+        ensures one { result ≡ true → says self.now (shared file.now name.now) }
+        ensures two { result ≡ false → says self.now (apart file.now name.now) };
 }
 
 impl<R: Files> Opener for R

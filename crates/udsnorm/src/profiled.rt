@@ -1,11 +1,11 @@
 //! The profile that words name, as its file has it: it is read to its end before a log is opened.
 
-ghost use Rattle.std.specs.Prelude.{◌≡◌, [], List, true};
+ghost use Rattle.std.specs.Prelude.{◌≡◌, [], List, false, true};
 ghost use Rattle.std.specs.Io.KnownBytes.{IsAtEnd};
 ghost use Rattle.clap.specs.Words.{Text, found_of, rows_of, subcommand_rows_of};
 ghost use Rattle.trace_io.specs.Stream.{Gave};
 ghost use Rattle.udsnorm.specs.Commands.{command_in};
-ghost use Rattle.udsnorm.specs.Profiled.{IsSeen, IsSeenAt, IsSharedWith, WasRead, log_names};
+ghost use Rattle.udsnorm.specs.Profiled.{IsApartFrom, IsSeen, IsSeenAt, IsSharedWith, WasRead, log_names};
 ghost use Rattle.udsnorm.specs.Words.{AreParsedAs};
 
 use crate::commands::{LEFT, LOG, OTHER, PROFILE, RIGHT};
@@ -84,7 +84,8 @@ fn seen_at<R: AllocGlobal + Opener>(rt: &R, name: &str, found: &ArgMatches<'_>) 
 
 /// Whether a file is the pipe or the terminal that a log of the command is to be read from.
 fn is_of_a_log<R: Opener>(rt: &R, file: &R::Log, found: &ArgMatches<'_>) -> bool
-    ensures { result ≡ true → IsSharedWith (R.says rt.now) file.now (log_names (rows_of (found_of found.now))) }
+    ensures one { result ≡ true → IsSharedWith (R.says rt.now) file.now (log_names (rows_of (found_of found.now))) }
+    ensures none { result ≡ false → IsApartFrom (R.says rt.now) file.now (log_names (rows_of (found_of found.now))) }
 {
     let first = text_of(found, LOG)
         .or(text_of(found, LEFT))
