@@ -1,6 +1,7 @@
 # What the scripts that make Debian packages share; they run it at the top of the repository. A package is what lies in a
 # folder of its own, which is called its stage. Equal files give equal packages.
 . packaging/release.sh
+# The packages are made here: Debian's own begin at the revision 1, which is later.
 debian_version=$version-0upstream1
 architecture=$(dpkg --print-architecture)
 maintainer="Yozhdyrga maintainers <maintainers@users.noreply.yozhdyrga.example>"

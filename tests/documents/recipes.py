@@ -10,8 +10,8 @@ end where its set-up does. Its blocks are:
 - `sh` without a name: the set-up, the commands that make /tmp/try, copy sample logs to it and go there; here a folder of the
   page's own stands in its place. A page without one has a folder in which `examples` is there;
 - `console TOOL...`: commands, each after `$`, and what they print. Where a tool is missing the block is skipped, by the tool's
-  name. One of `candump` needs a bus and is always skipped; `vcan0` is an interface, `package` the Python package with its
-  library, and `pandas`, `pytest` and `python-can` are modules of Python;
+  name. One of `candump` needs a bus and is always skipped; `package` is the Python package with its library, and `pandas`,
+  `pytest` and `python-can` are modules of Python;
 - `python NAME`: a script, saved as NAME at its place; the prose above says "Save as `NAME`";
 - `yaml`: a job of CI, which installs the Debian package first, and whose commands then stand in blocks of its section, too; one
   has `--strict`, and the files that it keeps are there at the end.
@@ -90,9 +90,7 @@ def missing_tool(tools, environment):
     for tool in tools:
         if tool == "candump":
             return "a bus"
-        if tool == "vcan0":
-            lacks = None if Path("/sys/class/net", tool).exists() else f"the interface {tool}"
-        elif tool == "package":
+        if tool == "package":
             lacks = None if "LD_LIBRARY_PATH" in environment else "the folder of the library"
         elif tool in MODULES:
             lacks = None if has_module(shutil.which("python3", path=environment["PATH"]), tool) else f"a Python that has {tool}"

@@ -1,10 +1,18 @@
 #!/usr/bin/env python3
-"""The pages of `udsnorm report` in real browsers, as docs/browsers.md says.
+"""The pages of `udsnorm report` in real browsers:
+
+- a page asks the network for nothing and tells the console nothing;
+- the verdict is above the session, also on paper (pdftotext reads what is printed);
+- nothing is too wide at 320, 420 and 1280 pixels; charts stand side by side in the last, below each other in the first;
+- contrasts are 4.5 or more: light, dark, forced colours;
+- screen readers find headers, the keyboard reaches everything, the filter works, and links into folded blocks;
+- a page that was cut says so, at 200 places; a whole one doesn't, with its style or without;
+- file names are text; 100,000 items open.
 
     tests/pages/browser.py crates/udsnorm/out/udsnorm
 
-Makes logs, has the program write the page of each, and looks at them in Chromium and in Firefox. What is missing is named and
-skipped, and nothing is installed.
+Makes logs, has the program write the page of each, and looks at them in Chromium and in Firefox; it was written with Chromium 156
+(Selenium, `chromium-driver`) and Firefox 153 (WebDriver BiDi). What is missing is named and skipped, and nothing is installed.
 
 Prints a line for each case and ends with `N passed, M failed`; its status is 1 where a case failed.
 """

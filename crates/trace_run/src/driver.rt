@@ -70,10 +70,10 @@ pub fn run_lenient<M: Machine + Drop, R: Source, W: Target>(
 fn give_up<M: Machine + Drop, W: Target>(
     fault: Fault,
     glimpse: Glimpse<'_>,
-    receiver: Receiver<M, W>,
+    receiver: Receiver<'_, M, W>,
     target: &mut W,
 ) -> Fault
-    ensures { GivesUp M.Machine W.Target (glimpse_value glimpse.entry) fault receiver target.old result target.new }
+    ensures { GivesUp M.Machine W.Target (glimpse_value glimpse.entry) fault receiver.entry target.old result target.new }
 {
     match fault {
         Fault::BadLine { .. } | Fault::LogLimit => refuse(fault, glimpse, receiver, target),
@@ -88,10 +88,10 @@ fn give_up<M: Machine + Drop, W: Target>(
 /// writing.
 fn end_untold<M: Machine + Drop, W: Target>(
     fault: Fault,
-    receiver: Receiver<M, W>,
+    receiver: Receiver<'_, M, W>,
     target: &mut W,
 ) -> Fault
-    ensures { SettlesAs W.Target fault receiver.telling.sheet target.old result target.new }
+    ensures { SettlesAs W.Target fault receiver.entry.telling.sheet target.old result target.new }
 {
     let Receiver { telling, .. } = receiver;
     let Telling { mut sheet, .. } = telling;
@@ -103,10 +103,10 @@ fn end_untold<M: Machine + Drop, W: Target>(
 fn refuse<M: Machine, W: Target>(
     why: Fault,
     glimpse: Glimpse<'_>,
-    receiver: Receiver<M, W>,
+    receiver: Receiver<'_, M, W>,
     target: &mut W,
 ) -> Fault
-    ensures { RefusesSaying M.Machine W.Target (glimpse_value glimpse.entry) why receiver target.old result target.new }
+    ensures { RefusesSaying M.Machine W.Target (glimpse_value glimpse.entry) why receiver.entry target.old result target.new }
 {
     let summary = receiver.summary(false);
     let Receiver { telling, .. } = receiver;
@@ -133,12 +133,12 @@ fn settle_before<W: Target>(fault: Fault, target: &mut W, sheet: &mut Sheet) -> 
 /// Writes what is said at the end, and answers. The log ended in a line feed, or not. All that is said of the log is
 /// written, or writing failed; and what was written before stays.
 fn finish<M: Machine, W: Target>(
-    receiver: Receiver<M, W>,
+    receiver: Receiver<'_, M, W>,
     ends_in_line_feed: bool,
     target: &mut W,
 ) -> Result<M::Answer, Fault>
-    ensures ends { EndsRun M.Machine W.Target receiver ends_in_line_feed target.old result target.new }
-    ensures more { EndsBehind M.Machine W.Target receiver target.old target.new }
+    ensures ends { EndsRun M.Machine W.Target receiver.entry ends_in_line_feed target.old result target.new }
+    ensures more { EndsBehind M.Machine W.Target receiver.entry target.old target.new }
 {
     let summary = receiver.summary(ends_in_line_feed);
     let Receiver { pair, telling, .. } = receiver;

@@ -155,7 +155,7 @@ impl<'a, M: Machine, W: Target> Receiver<'a, M, W> {
         dir: Dir,
         stamped: &Stamped,
     ) -> Result<(), Fault>
-        ensures same { (self.new.config ≡ self.old.config) × (self.new.lines ≡ self.old.lines) }
+        ensures same { (self.new.config.now ≡ self.old.config.now) × (self.new.lines ≡ self.old.lines) }
         ensures fault { IfErr result IsOfTaker }
         ensures pair { OnOk result ((T : List Entry) → self.old.pair.receptions ≡ receptions_after MESSAGE_LIMIT T
             → self.new.pair.receptions ≡ receptions_after MESSAGE_LIMIT (T ++ entry_at line stamped.now dir ∷ [])) }
