@@ -111,6 +111,7 @@ impl Rules {
     }
 
     /// The mask of the rule that speaks of a message, if it masks, and the place behind the prefix where it begins.
+    #[inline(always)]
     pub fn mask_of(&self, message: &[u8]) -> Option<(Mask, usize)>
         ensures value { result ≡ mask_of self.now message.now }
         ensures within { IfSome result (λ found. found.1 ≤ length message.now) }
