@@ -108,6 +108,7 @@ fn args_of_row<'a>(alloc: Global, row: &CommandRow) -> Result<Vec<Arg<'a>>, Allo
 }
 
 /// Puts the options and files of a group behind others.
+#[inline(always)]
 fn push_group<'a>(
     alloc: Global,
     args: &mut Vec<Arg<'a>>,
@@ -123,6 +124,7 @@ fn push_group<'a>(
 }
 
 /// Puts an option or a file behind others.
+#[inline(always)]
 fn push_argument<'a>(
     alloc: Global,
     args: &mut Vec<Arg<'a>>,
