@@ -1,9 +1,10 @@
 //! The parser's command, of the rows that stand for each command.
 
-ghost use Rattle.std.specs.Prelude.{◌≡◌, [], ◌∷◌, IfOk, false};
+ghost use Rattle.std.specs.Prelude.{◌≡◌, [], ◌∷◌, ◌++◌, IfOk, false, true, map};
+ghost use Rattle.std.specs.List.{flat_map, list_all};
 ghost use Rattle.clap.specs.Words.{app_of, rule_of, with_subcommand};
 ghost use Rattle.udsnorm.specs.Commands.{command_entries, commands, file, flag, limit, option, program};
-ghost use Rattle.udsnorm.specs.proving.Rows.{rules_of_group, rule_of_argument, shape_of_row, with_entries, with_rows, with_rules};
+ghost use Rattle.udsnorm.specs.proving.Rows.{is_unshared, rules_of_group, rule_of_argument, shape_of_row, with_entries, with_rows};
 
 use crate::commands::{Argument, COMMANDS, CommandRow, LIMIT, after_help_of};
 use clap::{Arg, ArgAction, Command, value_parser};
@@ -83,43 +84,57 @@ fn with_row<'a>(
     program.subcommand(command_of_row(alloc, row)?)
 }
 
-/// A command.
+/// A command. Its options and files are handed on together, since each call of the parser moves all of it.
 fn command_of_row<'a>(alloc: Global, row: &CommandRow) -> Result<Command<'a>, AllocError>
     ensures { IfOk result (λ c. app_of c ≡ record { top = shape_of_row row.now; subs = [] }) }
 {
-    let mut command = Command::new(alloc, row.name)
+    let args = args_of_row(alloc, row)?;
+    Command::new(alloc, row.name)
         .about(row.about)
-        .after_help(after_help_of(row.name));
+        .after_help(after_help_of(row.name))
+        .args(args)
+}
+
+/// The options and files of a command.
+fn args_of_row<'a>(alloc: Global, row: &CommandRow) -> Result<Vec<Arg<'a>>, AllocError>
+    ensures rules { IfOk result (λ args. map rule_of args.items ≡ flat_map (λ group. rules_of_group group.now) row.now.arguments.now) }
+    ensures local { IfOk result (λ args. list_all is_unshared args.items ≡ true) }
+{
+    let mut args = Vec::new(alloc);
     'groups: for group in row.arguments {
-        command = with_group(alloc, command, group)?;
+        push_group(alloc, &mut args, group)?;
     }
-    Ok(command)
+    Ok(args)
 }
 
-/// A command with more options and files.
-fn with_group<'a>(
+/// Puts the options and files of a group behind others.
+#[inline(always)]
+fn push_group<'a>(
     alloc: Global,
-    command: Command<'a>,
+    args: &mut Vec<Arg<'a>>,
     group: &[Argument],
-) -> Result<Command<'a>, AllocError>
-    ensures { IfOk result (λ c. app_of c ≡ with_rules (app_of command.entry) (rules_of_group group.now)) }
+) -> Result<(), AllocError>
+    ensures rules { IfOk result (λ _. map rule_of args.new.items ≡ map rule_of args.old.items ++ rules_of_group group.now) }
+    ensures local { list_all is_unshared args.old.items ≡ true → list_all is_unshared args.new.items ≡ true }
 {
-    let mut command = command;
     'arguments: for argument in group {
-        command = with_argument(alloc, command, *argument)?;
+        push_argument(alloc, args, *argument)?;
     }
-    Ok(command)
+    Ok(())
 }
 
-/// A command with one option or file more.
-fn with_argument<'a>(
+/// Puts an option or a file behind others.
+#[inline(always)]
+fn push_argument<'a>(
     alloc: Global,
-    command: Command<'a>,
+    args: &mut Vec<Arg<'a>>,
     argument: Argument,
-) -> Result<Command<'a>, AllocError>
-    ensures { IfOk result (λ c. app_of c ≡ with_rules (app_of command.entry) (rule_of_argument argument ∷ [])) }
+) -> Result<(), AllocError>
+    ensures rules { IfOk result (λ _. map rule_of args.new.items ≡ map rule_of args.old.items ++ rule_of_argument argument ∷ []) }
+    ensures local { list_all is_unshared args.old.items ≡ true → list_all is_unshared args.new.items ≡ true }
 {
-    command.arg(arg(alloc, argument))
+    args.push(arg(alloc, argument))?;
+    Ok(())
 }
 
 /// An option or a file.

@@ -1,8 +1,9 @@
 -- Devices of proof: what the rows of the code are to the parser.
-use Rattle.std.specs.Prelude.{List, [], ◌∷◌, ◌++◌, map}
+use Rattle.std.specs.Prelude.{List, [], ◌∷◌, ◌++◌, map, Bool, not}
 use Rattle.std.specs.List.{flat_map}
 use Rattle.clap.specs.Simple.{App, Shape, new_shape, with_subcommand}
 use Rattle.clap.specs.Walk.{Rule}
+use Rattle.clap.specs.declared.builder.arg.Arg.{Arg}
 use Rattle.udsnorm.specs.Commands.{CommandEntry, file, flag, limit, option, shape_of}
 use Rattle.udsnorm.specs.declared.commands.Argument.{Argument}
 use Rattle.udsnorm.specs.declared.commands.Argument.TheVariants as argument
@@ -18,6 +19,10 @@ rule_of_argument (argument.File name is_required help) = file name.now is_requir
 -- those of a group, one after another
 abbrev pub rules_of_group : List Argument → List Rule
 rules_of_group group = map rule_of_argument group
+
+-- an option or a file that no subcommand shares
+abbrev pub is_unshared : Arg → Bool
+is_unshared arg = not arg.global
 
 -- the command of a row
 abbrev pub shape_of_row : CommandRow → Shape
