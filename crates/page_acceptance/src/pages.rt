@@ -9,7 +9,7 @@ use std::test::Fail;
 use trace_canon::Comparison;
 use trace_canon::in_memory::CountedText;
 use trace_io::{Reading, Source, Target, Writing};
-use trace_log::{CompareFault, ConfigFault, Fault, Summary};
+use trace_log::{CompareFault, Config, ConfigFault, Fault, Summary};
 use trace_pair::in_memory::{CountedPage, NoPairPage, pair_page};
 use trace_pair::{Aligned, Title, align_two, write_pair_page};
 use trace_report::{KeptSessions, in_memory, keep_two, report};
@@ -40,24 +40,26 @@ fn reported<R: Read + Drop, W: Write + Drop>(
 }
 
 /// What both of these logs say, and how many reads of the right one were made.
-fn kept<A: Read + Drop, B: Read + Drop>(
+fn kept<'a, A: Read + Drop, B: Read + Drop>(
     alloc: Global,
+    config: &'a Config,
     left: A,
     right: B,
-) -> Result<(Result<KeptSessions, CompareFault>, u64), ConfigFault> {
+) -> (Result<KeptSessions<'a>, CompareFault>, u64) {
     let (mut left, mut right) = (Reading::new(left), Reading::new(right));
-    let answer = keep_two(alloc, &sides()?, &mut left, &mut right);
-    Ok((answer, right.reads()))
+    let answer = keep_two(alloc, config, &mut left, &mut right);
+    (answer, right.reads())
 }
 
 /// The same, side by side.
-fn aligned<A: Read + Drop, B: Read + Drop>(
+fn aligned<'a, A: Read + Drop, B: Read + Drop>(
     alloc: Global,
+    config: &'a Config,
     left: A,
     right: B,
-) -> Result<Result<Aligned, CompareFault>, ConfigFault> {
+) -> Result<Aligned<'a>, CompareFault> {
     let (mut left, mut right) = (Reading::new(left), Reading::new(right));
-    Ok(align_two(alloc, &sides()?, &mut left, &mut right))
+    align_two(alloc, config, &mut left, &mut right)
 }
 
 /// What was written of a page.
@@ -67,7 +69,7 @@ fn page_in(writer: Writing<Vec<u8>>) -> Result<String, Fail> {
 
 /// What writing the page of what is answered of two logs answers, and the writer as it left it.
 fn written<W: Write + Drop>(
-    answer: &Result<Aligned, CompareFault>,
+    answer: &Result<Aligned<'_>, CompareFault>,
     writer: W,
 ) -> (Result<(), Fault>, Writing<W>) {
     let mut writer = Writing::new(writer);
@@ -77,7 +79,8 @@ fn written<W: Write + Drop>(
 
 /// The page of what is answered of these logs.
 fn page_of_two(alloc: Global, left: &str, right: &str) -> Result<String, Fail> {
-    let answer = aligned(alloc, left.as_bytes(), right.as_bytes())?;
+    let config = sides()?;
+    let answer = aligned(alloc, &config, left.as_bytes(), right.as_bytes());
     let (written, writer) = written(&answer, Vec::new(alloc));
     written?;
     page_in(writer)
@@ -143,16 +146,17 @@ fn a_session_has_its_page(rt: HostRuntime) -> Result<(), Fail> {
 #[test]
 fn two_sessions_are_kept(rt: HostRuntime) -> Result<(), Fail> {
     let alloc = rt.alloc();
-    let (answer, reads) = kept(alloc, LOG.as_bytes(), byte_by_byte())?;
+    let config = sides()?;
+    let (answer, reads) = kept(alloc, &config, LOG.as_bytes(), byte_by_byte());
     let both = answer.or(Err("not kept"))?;
     assert!(rt; reads == 213);
     assert!(rt; both.left().summary().frames == 5 && both.right().summary().messages == 2);
-    let (answer, _) = kept(alloc, LOG.as_bytes(), REQUEST.as_bytes())?;
+    let (answer, _) = kept(alloc, &config, LOG.as_bytes(), REQUEST.as_bytes());
     let both = answer.or(Err("not kept"))?;
     assert!(rt; both.left().summary().messages == 2 && both.right().summary().messages == 1);
-    let (answer, reads) = kept(alloc, failing(), byte_by_byte())?;
+    let (answer, reads) = kept(alloc, &config, failing(), byte_by_byte());
     assert!(rt; answer.err() == Some(CompareFault::Left(Fault::Read)) && reads == 0);
-    let (answer, reads) = kept(alloc, byte_by_byte(), failing())?;
+    let (answer, reads) = kept(alloc, &config, byte_by_byte(), failing());
     assert!(rt; answer.err() == Some(CompareFault::Right(Fault::Read)) && reads == 101);
     Ok(())
 }
@@ -187,7 +191,8 @@ pending: 0, left_out: 0, ends_in_line_feed: true, looks_exchanged: false }, time
 #[test]
 fn a_session_that_is_kept_is_printed(rt: HostRuntime) -> Result<(), Fail> {
     let alloc = rt.alloc();
-    let (answer, _) = kept(alloc, EACH_ROW.as_bytes(), "".as_bytes())?;
+    let config = sides()?;
+    let (answer, _) = kept(alloc, &config, EACH_ROW.as_bytes(), "".as_bytes());
     let both = answer.or(Err("not kept"))?;
     let left = format!(in alloc; "{:?}", both.left())?;
     let rules = format!(in alloc; "{:?}", both.left().rules())?;
@@ -202,13 +207,16 @@ fn a_session_that_is_kept_is_printed(rt: HostRuntime) -> Result<(), Fail> {
 #[test]
 fn two_sessions_are_compared(rt: HostRuntime) -> Result<(), Fail> {
     let alloc = rt.alloc();
-    let both = aligned(alloc, LOG.as_bytes(), CANONICAL.as_bytes())?.or(Err("not aligned"))?;
+    let config = sides()?;
+    let both = aligned(alloc, &config, LOG.as_bytes(), CANONICAL.as_bytes()).or(Err(
+        "not aligned",
+    ))?;
     assert!(rt; both.comparison() == Comparison::Same);
     assert!(rt; both.two().left().summary().messages == 2);
-    let both = aligned(alloc, LOG.as_bytes(), REQUEST.as_bytes())?.or(Err("not aligned"))?;
+    let both = aligned(alloc, &config, LOG.as_bytes(), REQUEST.as_bytes()).or(Err("not aligned"))?;
     assert!(rt; both.comparison() == Comparison::Different { item: 0 });
     let more = repeated(alloc, REQUEST, 2)?;
-    let both = aligned(alloc, REQUEST.as_bytes(), more.as_bytes())?.or(Err("not aligned"))?;
+    let both = aligned(alloc, &config, REQUEST.as_bytes(), more.as_bytes()).or(Err("not aligned"))?;
     assert!(rt; both.comparison() == Comparison::Different { item: 1 });
     Ok(())
 }
@@ -216,8 +224,9 @@ fn two_sessions_are_compared(rt: HostRuntime) -> Result<(), Fail> {
 #[test]
 fn thousands_of_items_are_kept(rt: HostRuntime) -> Result<(), Fail> {
     let alloc = rt.alloc();
+    let config = sides()?;
     let log = repeated(alloc, "(1.000000) can0 7E8#0759595959595959\n", 2_000)?;
-    let both = aligned(alloc, log.as_bytes(), log.as_bytes())?.or(Err("not aligned"))?;
+    let both = aligned(alloc, &config, log.as_bytes(), log.as_bytes()).or(Err("not aligned"))?;
     assert!(rt; both.comparison() == Comparison::Same);
     let two = both.two();
     assert!(rt; two.left().summary().messages == 2_000 && two.right().summary().messages == 2_000);
@@ -291,12 +300,13 @@ fn sessions_in_memory_have_their_pages(rt: HostRuntime) -> Result<(), Fail> {
 #[test]
 fn two_sessions_whose_page_can_not_be_written(rt: HostRuntime) -> Result<(), Fail> {
     let alloc = rt.alloc();
+    let config = sides()?;
     let page = page_of_two(alloc, LOG, CANONICAL)?;
-    let answer = aligned(alloc, LOG.as_bytes(), CANONICAL.as_bytes())?;
+    let answer = aligned(alloc, &config, LOG.as_bytes(), CANONICAL.as_bytes());
     let (refused, writer) = written(&answer, full(alloc));
     assert!(rt; refused == Err(Fault::Write) && writer.failures() == 1);
     assert!(rt; is_front(writer.into_inner().inner.inner.as_slice(), &page, 50));
-    let answer = aligned(alloc, failing(), LOG.as_bytes())?;
+    let answer = aligned(alloc, &config, failing(), LOG.as_bytes());
     let (nothing, writer) = written(&answer, Vec::new(alloc));
     nothing?;
     assert!(rt; writer.into_inner().is_empty());

@@ -5,7 +5,7 @@ use std::alloc::Global;
 use std::test::Fail;
 use trace_canon::Comparison;
 use trace_io::{Reading, Writing};
-use trace_log::{CompareFault, Fault, Summary};
+use trace_log::{CompareFault, Config, Fault, Summary};
 use trace_pair::{Aligned, Title, align_two, write_pair_page};
 use tried_sessions::{Page, SESSIONS, Session, sides};
 
@@ -64,8 +64,9 @@ fn two_are_aligned(rt: HostRuntime) -> Result<(), Fail> {
 
 /// Holds the log of a session and its canonical log, and writes the page of both. Where they were refused memory, there is none.
 fn held(alloc: Global, session: Session) -> Result<bool, Fail> {
+    let config = sides()?;
     for is_again in TRIES {
-        let answer = aligned(alloc, session.log, session.canonical)?;
+        let answer = aligned(alloc, &config, session.log, session.canonical);
         let page = page_of_two(&answer)?;
         match answer {
             Err(CompareFault::Left(Fault::Memory) | CompareFault::Right(Fault::Memory)) => {
@@ -84,17 +85,18 @@ fn held(alloc: Global, session: Session) -> Result<bool, Fail> {
 }
 
 /// Two logs side by side.
-fn aligned(
+fn aligned<'a>(
     alloc: Global,
+    config: &'a Config,
     left: &[u8],
     right: &[u8],
-) -> Result<Result<Aligned, CompareFault>, Fail> {
+) -> Result<Aligned<'a>, CompareFault> {
     let (mut left, mut right) = (Reading::new(left), Reading::new(right));
-    Ok(align_two(alloc, &sides()?, &mut left, &mut right))
+    align_two(alloc, config, &mut left, &mut right)
 }
 
 /// The page of what is answered of these.
-fn page_of_two(answer: &Result<Aligned, CompareFault>) -> Result<Page, Fail> {
+fn page_of_two(answer: &Result<Aligned<'_>, CompareFault>) -> Result<Page, Fail> {
     let title = Title {
         style: "",
         left: b"log",

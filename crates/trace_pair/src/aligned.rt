@@ -16,12 +16,12 @@ use uds_difference::{Difference, bound_for};
 
 /// What two logs say, kept, and what stands beside what in them. Contracts see both sessions.
 #[derive(Debug, Drop)]
-pub struct Aligned {
-    two: KeptSessions,
+pub struct Aligned<'a> {
+    two: KeptSessions<'a>,
     difference: Difference,
 }
 
-impl Model for Aligned {
+impl<'a> Model for Aligned<'a> {
     ghost use Rattle.std.specs.Prelude.{◌≡◌};
     ghost use Rattle.trace_report.specs.Kept.{KeptSessionsValue};
     ghost use Rattle.uds_difference.specs.Rows.{is_shortest, rows_of};
@@ -35,9 +35,9 @@ impl Model for Aligned {
         × (aligned.difference.shortest ≡ is_shortest (values_in aligned.two.left) (values_in aligned.two.right)) };
 }
 
-impl Aligned {
+impl<'a> Aligned<'a> {
     /// Both sessions, which are set side by side now. Where neither has an item, no memory is asked for.
-    pub fn of(alloc: Global, two: KeptSessions) -> Result<Aligned, AllocError>
+    pub fn of(alloc: Global, two: KeptSessions<'a>) -> Result<Aligned<'a>, AllocError>
         ensures kept { IfOk result (λ aligned. aligned ≡ two) }
         ensures refused { IfErr result (λ refused. (values_in two.left ≢ []) ⊎ (values_in two.right ≢ [])) }
     {
@@ -46,7 +46,7 @@ impl Aligned {
     }
 
     /// Both sessions.
-    pub fn two(&self) -> &KeptSessions
+    pub fn two(&self) -> &KeptSessions<'a>
         ensures { result.now ≡ self.now }
     {
         &self.two

@@ -19,12 +19,12 @@ use trace_report::{KeptSessions, keep_two};
 
 /// Reads two logs, the first one whole before the second, and sets side by side what both say. No announcement and no
 /// canonical log is too long for it. Memory that is refused for that, of two logs that can be read, is told of the second.
-pub fn align_two<A: Source, B: Source>(
+pub fn align_two<'a, A: Source, B: Source>(
     alloc: Global,
-    config: &Config,
+    config: &'a Config,
     left: &mut A,
     right: &mut B,
-) -> Result<Aligned, CompareFault>
+) -> Result<Aligned<'a>, CompareFault>
     requires left { HasLowCounts A.Source left.old }
     requires right { HasLowCounts B.Source right.old }
 
@@ -61,10 +61,10 @@ pub fn align_two<A: Source, B: Source>(
 }
 
 /// What is answered of two logs that were kept, set side by side.
-fn set_beside(
+fn set_beside<'a>(
     alloc: Global,
-    kept: Result<KeptSessions, CompareFault>,
-) -> Result<Aligned, CompareFault>
+    kept: Result<KeptSessions<'a>, CompareFault>,
+) -> Result<Aligned<'a>, CompareFault>
     ensures { IsSetBeside kept result }
 {
     match kept {

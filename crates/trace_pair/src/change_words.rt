@@ -183,7 +183,7 @@ impl<'a> Part for ChangedItems<'a> {
 /// Says items that stand alone: so many, from the place of the first one on.
 fn say_run<S: TextSink>(
     rules: &Rules,
-    session: &KeptSession,
+    session: &KeptSession<'_>,
     first: usize,
     count: usize,
     out: &mut S,

@@ -44,7 +44,7 @@ pub(crate) fn say_chart<S: TextSink>(
     chart: Charted<'_>,
     item: usize,
     count: usize,
-    session: &KeptSession,
+    session: &KeptSession<'_>,
     out: &mut S,
 )
     requires same { changes_within chart.same chart.rows.now ≡ false }

@@ -137,7 +137,7 @@ fn say_side<S: TextSink>(
     name: &[u8],
     item: usize,
     count: usize,
-    session: &KeptSession,
+    session: &KeptSession<'_>,
     out: &mut S,
 )
     requires same { changes_within chart.same chart.rows.now ≡ false }

@@ -55,19 +55,23 @@ pub fn pair_page(
 }
 
 /// What two logs say, as [`keep_two`](trace_report::keep_two) answers it.
-fn keep_both(
+fn keep_both<'a>(
     alloc: Global,
-    config: &Config,
+    config: &'a Config,
     left: &[u8],
     right: &[u8],
-) -> Result<KeptSessions, CompareFault>
+) -> Result<KeptSessions<'a>, CompareFault>
     ensures { KeepsInMemory MESSAGE_LIMIT config.now left.now right.now result }
 {
     keep_two(alloc, config, &mut Bytes::new(left), &mut Bytes::new(right))
 }
 
 /// The page of two logs that are kept, unless memory for it was refused.
-fn page_of(alloc: Global, title: &Title<'_>, two: KeptSessions) -> Result<CountedPage, NoPairPage>
+fn page_of(
+    alloc: Global,
+    title: &Title<'_>,
+    two: KeptSessions<'_>,
+) -> Result<CountedPage, NoPairPage>
     ensures { MatchResult result (λ page. (page.text.items ≡ Spec.page_of (title_of title.now) two.left two.right) × (page.counted ≡ counted_two two)) (λ why. why ≡ NoPairPage.OfMemory) }
 {
     let Ok(aligned) = Aligned::of(alloc, two) else {
@@ -81,7 +85,7 @@ fn page_of(alloc: Global, title: &Title<'_>, two: KeptSessions) -> Result<Counte
 }
 
 /// The text of a page of two logs, unless memory for it was refused.
-fn text_of(alloc: Global, title: &Title<'_>, aligned: Aligned) -> Result<Vec<u8>, Fault>
+fn text_of(alloc: Global, title: &Title<'_>, aligned: Aligned<'_>) -> Result<Vec<u8>, Fault>
     ensures { IfOk result (λ text. text.items ≡ Spec.page_of (title_of title.now) aligned.left aligned.right) }
 {
     let answer = Ok(aligned);
@@ -93,7 +97,7 @@ fn text_of(alloc: Global, title: &Title<'_>, aligned: Aligned) -> Result<Vec<u8>
 }
 
 /// How two logs compare that are kept, and the counts of each.
-fn counted_two(aligned: &Aligned) -> CountedComparison
+fn counted_two(aligned: &Aligned<'_>) -> CountedComparison
     ensures { result ≡ counted_two aligned.now }
 {
     let two = aligned.two();

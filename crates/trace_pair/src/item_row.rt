@@ -71,7 +71,12 @@ pub(crate) fn say_item_row<S: TextSink>(
 }
 
 /// Says what is missing of the item that a row has of a log, if it has one.
-fn say_row_losses<S: TextSink>(log: PairLog, session: &KeptSession, place: RowPlace, out: &mut S)
+fn say_row_losses<S: TextSink>(
+    log: PairLog,
+    session: &KeptSession<'_>,
+    place: RowPlace,
+    out: &mut S,
+)
     ensures { S.says out.old (Spec.row_losses log session.now place) out.new }
 {
     if has_item(log, place.kind) {
@@ -80,7 +85,7 @@ fn say_row_losses<S: TextSink>(log: PairLog, session: &KeptSession, place: RowPl
 }
 
 /// The item that a row has of a log, if it has one.
-fn row_item(log: PairLog, session: &KeptSession, place: RowPlace) -> Option<PlacedItem<'_>>
+fn row_item(log: PairLog, session: &KeptSession<'_>, place: RowPlace) -> Option<PlacedItem<'_>>
     ensures { option_map item_of result ≡ Spec.row_item log session.now place }
 {
     if has_item(log, place.kind) {

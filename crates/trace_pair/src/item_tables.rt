@@ -47,7 +47,7 @@ pub(crate) fn say_items<S: TextSink>(sessions: Sessions<'_>, rows: &[Row], out: 
 }
 
 /// Says what is missing of a log without an item.
-fn say_losses_of_no_item<S: TextSink>(log: PairLog, session: &KeptSession, out: &mut S)
+fn say_losses_of_no_item<S: TextSink>(log: PairLog, session: &KeptSession<'_>, out: &mut S)
     ensures { S.says out.old (losses_of_no_item log session.now) out.new }
 {
     if session.rows().item_count() == 0 {

@@ -22,7 +22,7 @@ const TOLD: usize = 20;
 
 /// Whether something is missing of the items of a log that belong to a change, or where it has none, in front of the item
 /// before which they would stand.
-pub(crate) fn is_lossy(log: PairLog, session: &KeptSession, change: Change) -> bool
+pub(crate) fn is_lossy(log: PairLog, session: &KeptSession<'_>, change: Change) -> bool
     ensures { result ≡ Verdict.is_lossy log session.now change }
 {
     let before = items_before(log, change);
@@ -34,21 +34,21 @@ pub(crate) fn is_lossy(log: PairLog, session: &KeptSession, change: Change) -> b
 }
 
 /// Whether something is missing of so many items, from this one on.
-fn misses(session: &KeptSession, item: usize, count: usize) -> bool
+fn misses(session: &KeptSession<'_>, item: usize, count: usize) -> bool
     ensures { result ≡ nat_lt 0 (losses_from session.now.rows item count) }
 {
     count_losses(session, item, count) > 0
 }
 
 /// Whether something is missing in front of an item.
-fn misses_in_front(session: &KeptSession, item: usize) -> bool
+fn misses_in_front(session: &KeptSession<'_>, item: usize) -> bool
     ensures { result ≡ nat_lt 0 (losses_in_front session.now.rows item) }
 {
     count_in_front(session, item) > 0
 }
 
 /// How many losses belong to the item before this one, or stand before the first one.
-fn count_in_front(session: &KeptSession, item: usize) -> usize
+fn count_in_front(session: &KeptSession<'_>, item: usize) -> usize
     ensures { result ≡ losses_in_front session.now.rows item }
 {
     let rows = session.rows();
@@ -57,7 +57,7 @@ fn count_in_front(session: &KeptSession, item: usize) -> usize
 }
 
 /// How many losses belong to so many items, from this one on.
-pub(crate) fn count_losses(session: &KeptSession, item: usize, count: usize) -> usize
+pub(crate) fn count_losses(session: &KeptSession<'_>, item: usize, count: usize) -> usize
     ensures { result ≡ losses_from session.now.rows item count }
 {
     let rows = session.rows();
@@ -124,7 +124,12 @@ fn is_lost(missing: Missing) -> bool
 }
 
 /// Says what is missing of an item: up to twenty losses, and how many more there are.
-pub(crate) fn say_losses<S: TextSink>(log: PairLog, session: &KeptSession, item: usize, out: &mut S)
+pub(crate) fn say_losses<S: TextSink>(
+    log: PairLog,
+    session: &KeptSession<'_>,
+    item: usize,
+    out: &mut S,
+)
     ensures { S.says out.old (losses_text log (losses_of session.now.rows item)) out.new }
 {
     let rows = session.rows();

@@ -31,7 +31,7 @@ use uds_rules::Rules;
 /// The target is not flushed.
 pub fn write_pair_page<W: Target>(
     title: &Title<'_>,
-    answer: &Result<Aligned, CompareFault>,
+    answer: &Result<Aligned<'_>, CompareFault>,
     cause: Option<RefusalCause>,
     target: &mut W,
 ) -> Result<(), Fault>
@@ -52,7 +52,7 @@ pub fn write_pair_page<W: Target>(
 #[derive(Clone, Copy)]
 struct PairPage<'a> {
     title: &'a Title<'a>,
-    answer: &'a Result<Aligned, CompareFault>,
+    answer: &'a Result<Aligned<'a>, CompareFault>,
     cause: Option<RefusalCause>,
 }
 
@@ -84,7 +84,7 @@ impl<'a> Part for PairPage<'a> {
 }
 
 /// Says the page of two logs that can be read.
-fn say_aligned<S: TextSink>(title: &Title<'_>, aligned: &Aligned, out: &mut S)
+fn say_aligned<S: TextSink>(title: &Title<'_>, aligned: &Aligned<'_>, out: &mut S)
     ensures { S.says out.old (Spec.page_of (title_of title.now) aligned.now.left aligned.now.right) out.new }
 {
     let sessions = aligned.sessions();
@@ -118,7 +118,7 @@ fn say_both_counts<S: TextSink>(title: &Title<'_>, sessions: Sessions<'_>, out: 
 }
 
 /// Says all counts of a log.
-fn say_counts<S: TextSink>(log: PairLog, name: &[u8], session: &KeptSession, out: &mut S)
+fn say_counts<S: TextSink>(log: PairLog, name: &[u8], session: &KeptSession<'_>, out: &mut S)
     ensures { S.says out.old (Spec.counts_of log name.now session.now) out.new }
 {
     let summary = session.summary();

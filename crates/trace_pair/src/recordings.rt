@@ -29,7 +29,7 @@ pub(crate) fn say_recordings<S: TextSink>(
 }
 
 /// Says the row of a log.
-fn say_recording<S: TextSink>(log: PairLog, name: &[u8], session: &KeptSession, out: &mut S)
+fn say_recording<S: TextSink>(log: PairLog, name: &[u8], session: &KeptSession<'_>, out: &mut S)
     ensures { S.says out.old (recording log name.now session.now) out.new }
 {
     let summary = session.summary();

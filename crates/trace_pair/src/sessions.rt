@@ -12,13 +12,13 @@ use uds_exchange::Item;
 /// Both sessions of a page.
 #[derive(Clone, Copy)]
 pub(crate) struct Sessions<'a> {
-    pub left: &'a KeptSession,
-    pub right: &'a KeptSession,
+    pub left: &'a KeptSession<'a>,
+    pub right: &'a KeptSession<'a>,
 }
 
 /// The items of a session.
 #[derive(Clone, Copy)]
-pub(crate) struct ItemsOf<'a>(pub &'a KeptSession);
+pub(crate) struct ItemsOf<'a>(pub &'a KeptSession<'a>);
 
 impl<'a> ItemSource for ItemsOf<'a> {
     ghost use Rattle.trace_pair.specs.Sessions.{values_in};
@@ -35,7 +35,7 @@ impl<'a> ItemSource for ItemsOf<'a> {
 }
 
 /// The item of a session at a place, counted from 0, if there is one.
-pub(crate) fn item_at(session: &KeptSession, place: usize) -> Option<Item<'_>>
+pub(crate) fn item_at(session: &KeptSession<'_>, place: usize) -> Option<Item<'_>>
     ensures { option_map item_value result ≡ slice_get (values_in session.now) place }
 {
     match session.rows().item(place) {

@@ -97,7 +97,7 @@ fn look_exchanged(left: &Summary, right: &Summary) -> bool
 }
 
 /// Whether a session has a request.
-fn has_request(session: &KeptSession) -> bool
+fn has_request(session: &KeptSession<'_>) -> bool
     ensures { result ≡ list_any Spec.is_exchange (values_in session.now) }
 {
     let count = session.rows().item_count();
@@ -110,7 +110,7 @@ fn has_request(session: &KeptSession) -> bool
 }
 
 /// Whether the item of a session at a place is an exchange, if there is one.
-fn asks_at(session: &KeptSession, at: usize) -> bool
+fn asks_at(session: &KeptSession<'_>, at: usize) -> bool
     ensures { result ≡ asks_if (slice_get (values_in session.now) at) }
 {
     match item_at(session, at) {

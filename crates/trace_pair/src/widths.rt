@@ -52,7 +52,7 @@ impl Part for ChartClasses {
 
 /// The classes of the chart of a session.
 #[derive(Clone, Copy)]
-pub(crate) struct SessionClasses<'a>(pub &'a KeptSession);
+pub(crate) struct SessionClasses<'a>(pub &'a KeptSession<'a>);
 
 impl<'a> Part for SessionClasses<'a> {
     ghost use Rattle.trace_pair.specs.Widths.{session_classes};

@@ -31,12 +31,12 @@ use uds_rules::Rules;
 
 /// Reads two logs, the first one whole before the second, and answers what both say. No announcement and no canonical
 /// log is too long for it.
-pub fn keep_two<A: Source, B: Source>(
+pub fn keep_two<'a, A: Source, B: Source>(
     alloc: Global,
-    config: &Config,
+    config: &'a Config,
     left: &mut A,
     right: &mut B,
-) -> Result<KeptSessions, CompareFault>
+) -> Result<KeptSessions<'a>, CompareFault>
     requires left { HasLowCounts A.Source left.old }
     requires right { HasLowCounts B.Source right.old }
 
@@ -78,11 +78,11 @@ pub fn keep_two<A: Source, B: Source>(
 }
 
 /// Reads a log, and answers what it says.
-fn keep_session<R: Source>(
+fn keep_session<'a, R: Source>(
     alloc: Global,
-    config: &Config,
+    config: &'a Config,
     source: &mut R,
-) -> Result<KeptSession, Fault>
+) -> Result<KeptSession<'a>, Fault>
     requires source { HasLowCounts R.Source source.old }
     ensures answer { (log : List ℕ) → AgreesWith R.Source source.old source.new log → KeepsOne MESSAGE_LIMIT config.now log result }
     ensures near { (log : List ℕ) → AgreesWith R.Source source.old source.new log
@@ -121,7 +121,7 @@ pub(crate) struct Heard {
 }
 
 /// What a log under rules says of which this was heard.
-fn finished(rules: &Rules, heard: Heard) -> Result<KeptSession, AllocError>
+fn finished<'a>(rules: &'a Rules, heard: Heard) -> Result<KeptSession<'a>, AllocError>
     ensures session { IfOk result (λ session. (T : List Entry) (summary : SummaryValue)
         → IsHeardOf rules.now T summary heard → session ≡ session_of MESSAGE_LIMIT rules.now T summary) }
     ensures refused { IfErr result (λ refused. rows_in heard.last ≢ []) }

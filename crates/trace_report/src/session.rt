@@ -12,15 +12,15 @@ use uds_rules::Rules;
 /// What a log says, kept. Contracts see its rows, its counts, the times of its first frame and its last one, the rules that it is
 /// under, and of how many of its messages each spoke.
 #[derive(Debug, Drop)]
-pub struct KeptSession {
+pub struct KeptSession<'a> {
     rows: KeptRows,
     summary: Summary,
     times: Option<Times>,
-    rules: Rules,
+    rules: &'a Rules,
     spoken: RuleCounts,
 }
 
-impl Model for KeptSession {
+impl<'a> Model for KeptSession<'a> {
     ghost use Rattle.trace_report.specs.Session.{SessionValue};
     ghost use Rattle.trace_report.specs.proving.Lending.{first_of_times, last_of_times};
 
@@ -31,21 +31,21 @@ impl Model for KeptSession {
       summary = s.summary;
       first = first_of_times s.times;
       last = last_of_times s.times;
-      rules = s.rules;
+      rules = s.rules.now;
       spoken = s.spoken.items;
     } };
 }
 
-impl KeptSession {
+impl<'a> KeptSession<'a> {
     /// What is kept of a log under these rules: its rows, its counts, the times of its first frame and its last one, if it has
     /// frames, and of how many messages each rule spoke.
     pub(crate) fn of(
-        rules: &Rules,
+        rules: &'a Rules,
         rows: KeptRows,
         summary: Summary,
         times: Option<Times>,
         spoken: RuleCounts,
-    ) -> KeptSession
+    ) -> KeptSession<'a>
         ensures rows { result.rows ≡ rows }
         ensures summary { result.summary ≡ summary }
         ensures first { result.first ≡ first_of_times times }
@@ -57,7 +57,7 @@ impl KeptSession {
             rows,
             summary,
             times,
-            rules: *rules,
+            rules,
             spoken,
         }
     }
@@ -94,7 +94,7 @@ impl KeptSession {
     pub fn rules(&self) -> &Rules
         ensures { result.now ≡ self.now.rules }
     {
-        &self.rules
+        self.rules
     }
 
     /// Of how many of its messages each rule spoke, in the order of the rules.

@@ -6,12 +6,12 @@ use std::marker::Model;
 
 /// What two logs say, kept. Contracts see both sessions.
 #[derive(Debug, Drop)]
-pub struct KeptSessions {
-    left: KeptSession,
-    right: KeptSession,
+pub struct KeptSessions<'a> {
+    left: KeptSession<'a>,
+    right: KeptSession<'a>,
 }
 
-impl Model for KeptSessions {
+impl<'a> Model for KeptSessions<'a> {
     ghost use Rattle.trace_report.specs.Kept.{KeptSessionsValue};
 
     ghost Value = { KeptSessionsValue };
@@ -19,9 +19,9 @@ impl Model for KeptSessions {
     ghost view = { λ both. record { left = both.left; right = both.right } };
 }
 
-impl KeptSessions {
+impl<'a> KeptSessions<'a> {
     /// Both sessions.
-    pub(crate) fn of(left: KeptSession, right: KeptSession) -> KeptSessions
+    pub(crate) fn of(left: KeptSession<'a>, right: KeptSession<'a>) -> KeptSessions<'a>
         ensures left { result.left ≡ left }
         ensures right { result.right ≡ right }
     {
@@ -29,14 +29,14 @@ impl KeptSessions {
     }
 
     /// The first session.
-    pub fn left(&self) -> &KeptSession
+    pub fn left(&self) -> &KeptSession<'a>
         ensures { result.now ≡ self.now.left }
     {
         &self.left
     }
 
     /// The second session.
-    pub fn right(&self) -> &KeptSession
+    pub fn right(&self) -> &KeptSession<'a>
         ensures { result.now ≡ self.now.right }
     {
         &self.right

@@ -298,7 +298,7 @@ fn write_differing<W: Target>(
 }
 
 /// An answer about two logs that are kept, without what they say.
-fn answer_kept(answer: &Result<Aligned, CompareFault>) -> Result<PairAnswer, CompareFault>
+fn answer_kept(answer: &Result<Aligned<'_>, CompareFault>) -> Result<PairAnswer, CompareFault>
     ensures { result ≡ answer_kept answer.now }
 {
     match answer {
@@ -308,7 +308,7 @@ fn answer_kept(answer: &Result<Aligned, CompareFault>) -> Result<PairAnswer, Com
 }
 
 /// What two logs that are kept are to each other, without what they say.
-fn pair_kept(aligned: &Aligned) -> PairAnswer
+fn pair_kept(aligned: &Aligned<'_>) -> PairAnswer
     ensures { result ≡ pair_kept aligned.now }
 {
     let two = aligned.two();
@@ -321,7 +321,7 @@ fn pair_kept(aligned: &Aligned) -> PairAnswer
 
 /// The cause of a refusal of one of two logs with this limit, by what is seen of both sources.
 fn cause_in<A: Source, B: Source>(
-    answer: &Result<Aligned, CompareFault>,
+    answer: &Result<Aligned<'_>, CompareFault>,
     max_bytes: u64,
     left: &A,
     right: &B,
@@ -351,7 +351,7 @@ fn write_page<W: Target>(
     left_name: &str,
     right_name: &str,
     config: &Config,
-    answer: &Result<Aligned, CompareFault>,
+    answer: &Result<Aligned<'_>, CompareFault>,
     cause: Option<RefusalCause>,
     out: &mut W,
 ) -> bool
