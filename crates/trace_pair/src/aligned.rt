@@ -38,8 +38,8 @@ impl<'a> Model for Aligned<'a> {
 impl<'a> Aligned<'a> {
     /// Both sessions, which are set side by side now. Where neither has an item, no memory is asked for.
     pub fn of(alloc: Global, two: KeptSessions<'a>) -> Result<Aligned<'a>, AllocError>
-        ensures kept { IfOk result (λ aligned. aligned ≡ two) }
-        ensures refused { IfErr result (λ refused. (values_in two.left ≢ []) ⊎ (values_in two.right ≢ [])) }
+        ensures kept { IfOk result (λ aligned. aligned ≡ two.entry) }
+        ensures refused { IfErr result (λ refused. (values_in two.entry.left ≢ []) ⊎ (values_in two.entry.right ≢ [])) }
     {
         let difference = Difference::between(alloc, &ItemsOf(two.left()), &ItemsOf(two.right()))?;
         Ok(Aligned { two, difference })

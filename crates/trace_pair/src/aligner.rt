@@ -65,7 +65,7 @@ fn set_beside<'a>(
     alloc: Global,
     kept: Result<KeptSessions<'a>, CompareFault>,
 ) -> Result<Aligned<'a>, CompareFault>
-    ensures { IsSetBeside kept result }
+    ensures { IsSetBeside kept.entry result }
 {
     match kept {
         Ok(two) => match Aligned::of(alloc, two) {

@@ -72,7 +72,7 @@ fn page_of(
     title: &Title<'_>,
     two: KeptSessions<'_>,
 ) -> Result<CountedPage, NoPairPage>
-    ensures { MatchResult result (λ page. (page.text.items ≡ Spec.page_of (title_of title.now) two.left two.right) × (page.counted ≡ counted_two two)) (λ why. why ≡ NoPairPage.OfMemory) }
+    ensures { MatchResult result (λ page. (page.text.items ≡ Spec.page_of (title_of title.now) two.entry.left two.entry.right) × (page.counted ≡ counted_two two.entry)) (λ why. why ≡ NoPairPage.OfMemory) }
 {
     let Ok(aligned) = Aligned::of(alloc, two) else {
         return Err(NoPairPage::OfMemory);
@@ -86,7 +86,7 @@ fn page_of(
 
 /// The text of a page of two logs, unless memory for it was refused.
 fn text_of(alloc: Global, title: &Title<'_>, aligned: Aligned<'_>) -> Result<Vec<u8>, Fault>
-    ensures { IfOk result (λ text. text.items ≡ Spec.page_of (title_of title.now) aligned.left aligned.right) }
+    ensures { IfOk result (λ text. text.items ≡ Spec.page_of (title_of title.now) aligned.entry.left aligned.entry.right) }
 {
     let answer = Ok(aligned);
     let mut writer = Writing::new(Vec::new(alloc));

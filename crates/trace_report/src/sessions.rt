@@ -22,8 +22,8 @@ impl<'a> Model for KeptSessions<'a> {
 impl<'a> KeptSessions<'a> {
     /// Both sessions.
     pub(crate) fn of(left: KeptSession<'a>, right: KeptSession<'a>) -> KeptSessions<'a>
-        ensures left { result.left ≡ left }
-        ensures right { result.right ≡ right }
+        ensures left { result.left ≡ left.entry }
+        ensures right { result.right ≡ right.entry }
     {
         KeptSessions { left, right }
     }
