@@ -122,7 +122,7 @@ fn marks_in<'a>(chart: Charted<'a>, row: Option<RowPlace>) -> Option<Marked<'a>>
 }
 
 /// The item of a session at a place, where it stands in a row of two that changed.
-fn changed_item(kind: Row, session: &KeptSession<'_>, place: usize) -> Option<PlacedItem<'_>>
+fn changed_item<'a>(kind: Row, session: &'a KeptSession<'_>, place: usize) -> Option<PlacedItem<'a>>
     ensures { option_map item_of result ≡ Spec.changed_item kind session.now place }
 {
     match kind {

@@ -85,7 +85,11 @@ fn say_row_losses<S: TextSink>(
 }
 
 /// The item that a row has of a log, if it has one.
-fn row_item(log: PairLog, session: &KeptSession<'_>, place: RowPlace) -> Option<PlacedItem<'_>>
+fn row_item<'a>(
+    log: PairLog,
+    session: &'a KeptSession<'_>,
+    place: RowPlace,
+) -> Option<PlacedItem<'a>>
     ensures { option_map item_of result ≡ Spec.row_item log session.now place }
 {
     if has_item(log, place.kind) {

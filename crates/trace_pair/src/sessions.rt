@@ -29,7 +29,7 @@ impl<'a> ItemSource for ItemsOf<'a> {
         self.0.rows().item_count()
     }
 
-    fn item_at(&self, place: usize) -> Option<Item<'_>> {
+    fn item_at<'a>(&self, place: usize) -> Option<Item<'a>> {
         item_at(self.0, place)
     }
 }
