@@ -29,13 +29,13 @@ impl<'a> ItemSource for ItemsOf<'a> {
         self.0.rows().item_count()
     }
 
-    fn item_at<'a>(&self, place: usize) -> Option<Item<'a>> {
+    fn item_at(&self, place: usize) -> Option<Item<'_>> {
         item_at(self.0, place)
     }
 }
 
 /// The item of a session at a place, counted from 0, if there is one.
-pub(crate) fn item_at(session: &KeptSession<'_>, place: usize) -> Option<Item<'_>>
+pub(crate) fn item_at<'a>(session: &'a KeptSession<'_>, place: usize) -> Option<Item<'a>>
     ensures { option_map item_value result ≡ slice_get (values_in session.now) place }
 {
     match session.rows().item(place) {
