@@ -27,8 +27,8 @@ fresh log = record { inner = log; reads = 0; failures = 0; is_over = false; give
 pub opened_as : {F : Type 0} (says : Saying F → Type 0) {name : List ℕ} {log : F} {reader : CountedReader F} → reader ≡ fresh log → says (opened name log) → says (opened name reader.inner)
 opened_as {F} says {name} is told = subst (λ (r : CountedReader F). says (opened name r.inner)) (sym is) told
 
-pub apart_as : {F : Type 0} (says : Saying F → Type 0) {names : List Text} {log : F} {reader : CountedReader F} → reader ≡ fresh log → IsApartFrom says log names → IsApartFrom says reader.inner names
-apart_as {F} says {names} is told = subst (λ (r : CountedReader F). IsApartFrom says r.inner names) (sym is) told
+pub apart_as : {F : Type 0} (says : Saying F → Type 0) (names : List Text) {log : F} {reader : CountedReader F} → reader ≡ fresh log → IsApartFrom says log names → IsApartFrom says reader.inner names
+apart_as {F} says names is told = subst (λ (r : CountedReader F). IsApartFrom says r.inner names) (sym is) told
 
 pub two_files_as : {F : Type 0} (says : Saying F → Type 0) {one other : F} {left right : CountedReader F} → left ≡ fresh one → right ≡ fresh other
     → says (two_files one other) → says (two_files left.inner right.inner)
