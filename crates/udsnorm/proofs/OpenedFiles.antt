@@ -1,8 +1,8 @@
 -- Files that were opened by their names, and what was read of a profile.
-use Rattle.std.proofs.Common.{◌≡◌, ℕ, [], List, inr, Option, Some, None, Result, Ok, sym, subst, false, true}
+use Rattle.std.proofs.Common.{◌≡◌, ℕ, [], List, inr, Option, Some, None, option_map, Result, Ok, ap, sym, subst, false, true}
 use Rattle.clap.specs.Simple.{subcommand_rows_of}
 use Rattle.clap.specs.Walk.{Row, Text, first_of}
-use Rattle.std.specs.Prelude.{codes}
+use Rattle.std.specs.Prelude.{codes, unwrap_or}
 use Rattle.std.specs.Io.KnownBytes.{IsAtEnd}
 use Rattle.clap.specs.declared.error.Error.{Error}
 use Rattle.clap.specs.declared.parser.matches.ArgMatches.{ArgMatches}
@@ -47,6 +47,14 @@ read_of says file name rows first last seen.Unread unread apart gave ended was =
     inr (record { opened = first; unread = unread; apart = apart; read = last; gave = gave; ended = ended; was = was })
 read_of says file name rows first last seen.Shared unread apart gave ended was = absurd was
 read_of says file name rows first last seen.Memory unread apart gave ended was = tt
+
+-- what is seen of the profile that a command names is seen for that command
+pub seen_named : {F : Type 0} (says : Saying F → Type 0) (file : SourceGhosts (CountedReader F)) (name : Text) (rows : List Row) (found : Option (Text × List Row)) (what : SeenProfile)
+    → Some rows ≡ option_map (λ p. p.1) found → Some name ≡ first_of (codes "profile") rows → IsSeenAt says file name rows what → IsSeen says file found what
+seen_named says file name rows None what is named seen = tt
+seen_named says file name rows (Some found) what is named seen =
+    let same : rows ≡ found.1 = ap (λ o. unwrap_or o []) is in
+    subst (λ l. IsSeenIn says file (first_of (codes "profile") l) l what) same (subst (λ n. IsSeenIn says file n rows what) named seen)
 
 -- what is seen for the command that the parser found is seen for the words of which it says so
 pub seen_by : {F : Type 0} (says : Saying F → Type 0) (file : SourceGhosts (CountedReader F)) (words : List Text) (parsed : Result ArgMatches Error) (matches : ArgMatches) (what : SeenProfile)
