@@ -9,6 +9,7 @@ Prints a line for each case and ends with `N passed, M failed`; its status is 1 
 
 import os
 import random
+import subprocess
 import sys
 import tempfile
 from pathlib import Path
@@ -218,6 +219,19 @@ def units(cases):
     cases.case("identifiers in lower case", lower, *cases.run(["list"], log))
 
 
+def names_of_a_script(cases):
+    """The script of several units makes paths of names alone, whatever a wrong profile tells."""
+    Path("a.log").write_bytes(FIRST)
+    Path("index.html").write_bytes(b"kept")
+    environment = {"PATH": f"{Path(cases.program).parent}:{os.environ['PATH']}"}
+    for key in ("choose one by --only: ../index", "1 units: choose one by --only: ../index, x", "1 units: choose one by --only: *"):
+        Path("wrong.toml").write_text(f'" {key}" = 1\n')
+        words = ["sh", EXAMPLES / "compare-units", "wrong.toml", "a.log", "a.log", "pages"]
+        done = subprocess.run(words, env=environment, stdin=subprocess.DEVNULL, capture_output=True, check=False)
+        kept = done.returncode == WORDS and not Path("pages").exists() and Path("index.html").read_bytes() == b"kept"
+        cases.report(f"compare-units under a profile with the key {key!r}", [] if kept else [f"{done}"])
+
+
 def no_rules(cases):
     """A profile that asks for nothing changes nothing."""
     for text in ("", "\ufeff# nothing\r\n", "drop = []\nmask = []\n", "unit = []", ENGINE):
@@ -286,7 +300,7 @@ def main():
     cases = Cases(os.path.abspath(sys.argv[1]), sys.argv[2:])
     with tempfile.TemporaryDirectory() as folder:
         os.chdir(folder)
-        cases.each([wrong_profiles, bounds, unread, failing_reads, one_stream, orders, commands_with_profiles, left_by_rules, toml_of_today, units, no_rules, explained, ready, found_units, at_random])
+        cases.each([wrong_profiles, bounds, unread, failing_reads, one_stream, orders, commands_with_profiles, left_by_rules, toml_of_today, units, names_of_a_script, no_rules, explained, ready, found_units, at_random])
         os.chdir("/")
     cases.end()
 

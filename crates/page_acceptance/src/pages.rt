@@ -2,7 +2,8 @@
 //! is tested over the built program, by `tests/pages/report.py` and `tests/pages/report_pairs.py`.
 
 use can_log::Id;
-use std::alloc::Global;
+use std::alloc::{AllocError, Global};
+use std::fmt::Debug;
 use std::io::{Read, Write};
 use std::process::Abort;
 use std::test::Fail;
@@ -161,6 +162,11 @@ fn two_sessions_are_kept(rt: HostRuntime) -> Result<(), Fail> {
     Ok(())
 }
 
+/// What `{:?}` prints of a value.
+fn shown<T: Debug>(alloc: Global, value: &T) -> Result<String, AllocError> {
+    format!(in alloc; "{value:?}")
+}
+
 /// A session with a row of each kind: a request, a reception that ended, its answer, a frame that was dropped, a request
 /// without an answer, and a reception that stands at the end.
 const EACH_ROW: &str = "\
@@ -194,13 +200,13 @@ fn a_session_that_is_kept_is_printed(rt: HostRuntime) -> Result<(), Fail> {
     let config = sides()?;
     let (answer, _) = kept(alloc, &config, EACH_ROW.as_bytes(), "".as_bytes());
     let both = answer.or(Err("not kept"))?;
-    let left = format!(in alloc; "{:?}", both.left())?;
-    let rules = format!(in alloc; "{:?}", both.left().rules())?;
+    let left = shown(alloc, both.left())?;
+    let rules = shown(alloc, both.left().rules())?;
     let printed = format!(in alloc; "{PRINTED}, rules: {rules}, spoken: [] }}")?;
     assert_eq!(rt; left.as_str(), printed.as_str());
-    let right = format!(in alloc; "{:?}", both.right())?;
+    let right = shown(alloc, both.right())?;
     let whole = format!(in alloc; "KeptSessions {{ left: {left}, right: {right} }}")?;
-    assert_eq!(rt; format!(in alloc; "{both:?}")?.as_str(), whole.as_str());
+    assert_eq!(rt; shown(alloc, &both)?.as_str(), whole.as_str());
     Ok(())
 }
 
