@@ -1,5 +1,6 @@
 -- An identifier is known by its one number.
-use Rattle.std.proofs.Common.{◌≡◌, ◌↔◌, IsTrue, ℕ, nat_eq, arith, ap, sym, ◌∙◌}
+use Rattle.std.proofs.Common.{◌≡◌, ◌↔◌, IsTrue, ℕ, nat_eq, arith, ap, sym, ◌∙◌, Option, Some, None}
+use Rattle.std.specs.Prelude.{unwrap_or}
 use Rattle.std.proofs.lemmas.Bool.{eqb-true, eq-eqb}
 use Rattle.can_log.specs.declared.frame.Id.{Id}
 use Rattle.can_log.specs.declared.frame.Id.TheVariants as id
@@ -16,4 +17,16 @@ pub same_by_number : (a b : Id) (m n : ℕ) → m ≡ number_of a → n ≡ numb
 same_by_number a b m n m_is n_is = (
   λ equal. same_identifier a b (sym m_is ∙ eqb-true m n equal ∙ n_is),
   λ same. eq-eqb m n (m_is ∙ ap number_of same ∙ sym n_is),
+)
+
+-- an identifier that is not the first is the third exactly where it has the number kept for that
+pub same_as_third : (first : Id) (third : Option Id) (id : Id) (m n : ℕ) → m ≡ number_of id → n ≡ number_of (unwrap_or third first) → (id ≡ first → ⊥)
+    → IsTrue (nat_eq m n) ↔ (third ≡ Some id)
+same_as_third first None id m n m_is n_is apart = (
+  λ equal. absurd (apart ((same_by_number id first m n m_is n_is).0 equal)),
+  λ same. absurd (cc),
+)
+same_as_third first (Some third) id m n m_is n_is apart = (
+  λ equal. ap Some (sym ((same_by_number id third m n m_is n_is).0 equal)),
+  λ same. let alike : id ≡ third = cc in (same_by_number id third m n m_is n_is).1 alike,
 )

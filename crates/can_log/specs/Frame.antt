@@ -1,5 +1,5 @@
 -- What a contract sees of a frame, and which frames there are (ISO 11898-1).
-use Rattle.std.specs.Prelude.{ℕ, ◌+◌, ◌*◌, ◌<◌, ◌≤◌, List, length, ⊤}
+use Rattle.std.specs.Prelude.{◌≡◌, ◌≢◌, ◌⊎◌, ℕ, ◌+◌, ◌*◌, ◌<◌, ◌≤◌, List, length, ⊤, Option, Some}
 use Rattle.std.specs.List.{AllByRecursion}
 use Rattle.can_log.specs.declared.frame.Id.{Id}
 use Rattle.can_log.specs.declared.frame.Id.TheVariants as id
@@ -37,10 +37,21 @@ abbrev pub number_of : Id → ℕ
 number_of (id.Std number) = 2 * number
 number_of (id.Ext number) = 2 * number + 1
 
--- two identifiers whose frames are wanted
+-- two identifiers whose frames are wanted, and a third where there is one
 pub record WantedValue : Type 0 where
   pub first : Id
   pub second : Id
+  pub third : Option Id
+
+-- the identifier is one of them
+abbrev pub IsWanted : WantedValue → Id → Type 0
+IsWanted wanted id = (id ≡ wanted.first) ⊎ ((id ≡ wanted.second) ⊎ (wanted.third ≡ Some id))
+
+-- the identifier is none of them
+pub record IsForeign (wanted : WantedValue) (id : Id) : Type 0 where
+  pub not_first : id ≢ wanted.first
+  pub not_second : id ≢ wanted.second
+  pub not_third : wanted.third ≢ Some id
 
 -- there is a frame with these parts
 pub record IsFrame (id : Id) (kind : Kind) (bytes : List ℕ) : Type 0 where

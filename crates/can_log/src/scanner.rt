@@ -142,7 +142,7 @@ impl Scanner {
         self.scan_short_into(piece, answer);
     }
 
-    /// The same for a caller that wants the frames of two identifiers alone. Where a line of plain form records another frame,
+    /// The same for a caller that wants the frames of some identifiers alone. Where a line of plain form records another frame,
     /// its time and its data are not decoded: it is taken, how many bytes of the piece it has is told, and `answer` stays as it
     /// was. In any other form such a line is answered like the rest.
     #[inline(always)]
@@ -153,7 +153,7 @@ impl Scanner {
         answer: &mut Scan,
     ) -> Option<usize>
         requires { self.old.taken + length piece.now ≤ 2 ^ 62 }
-        ensures foreign { IfSome result (λ used. ScansForeign wanted.now.first wanted.now.second self.old piece.now used self.new) }
+        ensures foreign { IfSome result (λ used. ScansForeign wanted.now self.old piece.now used self.new) }
         ensures answer { IfNone result (Scans self.old piece.now answer.new self.new) }
     {
         match self.scan_plain_wanted_into::<true>(wanted, piece, answer) {
@@ -184,7 +184,7 @@ impl Scanner {
         answer: &mut Scan,
     ) -> Option<usize>
         requires { self.old.taken + length piece.now ≤ 2 ^ 62 }
-        ensures foreign { IfSome result (λ used. ScansForeign wanted.now.first wanted.now.second self.old piece.now used self.new) }
+        ensures foreign { IfSome result (λ used. ScansForeign wanted.now self.old piece.now used self.new) }
         ensures answer { IfNone result (Scans self.old piece.now answer.new self.new) }
     {
         match self.scan_plain_wanted_into::<false>(wanted, piece, answer) {
@@ -210,7 +210,7 @@ impl Scanner {
         true
     }
 
-    /// The same for a caller that wants two identifiers alone: what `scan_wanted_into` gives, if the line is of plain form.
+    /// The same for a caller that wants some identifiers alone: what `scan_wanted_into` gives, if the line is of plain form.
     #[inline(always)]
     fn scan_plain_wanted_into<const IS_LONG: bool>(
         &mut self,
@@ -219,7 +219,7 @@ impl Scanner {
         answer: &mut Scan,
     ) -> Option<Option<usize>>
         requires { self.old.taken + length piece.now ≤ 2 ^ 62 }
-        ensures foreign { IfSome result (λ foreign. IfSome foreign (λ used. ScansForeign wanted.now.first wanted.now.second self.old piece.now used self.new)) }
+        ensures foreign { IfSome result (λ foreign. IfSome foreign (λ used. ScansForeign wanted.now self.old piece.now used self.new)) }
         ensures answer { IfSome result (λ foreign. IfNone foreign (Scans self.old piece.now answer.new self.new)) }
         ensures left { IfNone result (self.new ≡ self.old) }
     {

@@ -6,41 +6,62 @@ ghost use Rattle.can_log.specs.Frame.{number_of};
 use crate::frame::Id;
 use std::marker::Model;
 
-/// Two identifiers, made once for all lines of a log. Each is kept beside its one number, so that a line is compared with
-/// both in two steps.
+/// Two identifiers, and a third where one is wanted, made once for all lines of a log. Each is kept beside its one number,
+/// so that a line is compared with all in three steps.
 #[derive(Clone, Copy, Debug, PartialEq, Eq)]
 pub struct Wanted {
     first: Id,
     second: Id,
+    third: Option<Id>,
     first_number: u64,
     second_number: u64,
+    /// Where no third is wanted, the number of the first once more.
+    third_number: u64,
 }
 
 impl Model for Wanted {
-    ghost use Rattle.std.specs.Prelude.{◌≡◌};
+    ghost use Rattle.std.specs.Prelude.{◌≡◌, unwrap_or};
     ghost use Rattle.can_log.specs.Frame.{WantedValue, number_of};
 
     ghost Value = { WantedValue };
 
-    ghost view = { λ w. record { first = w.first; second = w.second } };
+    ghost view = { λ w. record { first = w.first; second = w.second; third = w.third } };
 
-    ghost invariant = { λ w. (w.first_number ≡ number_of w.first) × (w.second_number ≡ number_of w.second) };
+    ghost invariant = { λ w. (w.first_number ≡ number_of w.first) × (w.second_number ≡ number_of w.second) × (w.third_number ≡ number_of (unwrap_or w.third w.first)) };
 
-    ghost inverse = { λ v. record { first = v.first; second = v.second; first_number = number_of v.first; second_number = number_of v.second } };
+    ghost inverse = { λ v. record { first = v.first; second = v.second; third = v.third; first_number = number_of v.first; second_number = number_of v.second; third_number = number_of (unwrap_or v.third v.first) } };
 }
 
 impl Wanted {
-    ghost use Rattle.std.specs.Prelude.{◌≡◌, ◌↔◌, ◌⊎◌, IsTrue};
+    ghost use Rattle.std.specs.Prelude.{◌≡◌, ◌↔◌, Some, None, IsTrue};
+    ghost use Rattle.can_log.specs.Frame.{IsWanted};
 
     /// These two.
     pub fn new(first: Id, second: Id) -> Wanted
-        ensures { result ≡ record { first = first; second = second } }
+        ensures { result ≡ record { first = first; second = second; third = None } }
     {
+        let first_number = number_of(first);
         Wanted {
             first,
             second,
-            first_number: number_of(first),
+            third: None,
+            first_number,
             second_number: number_of(second),
+            third_number: first_number,
+        }
+    }
+
+    /// These, with this one as the third.
+    pub fn with_third(self, third: Id) -> Wanted
+        ensures { result ≡ record self { third = Some third } }
+    {
+        Wanted {
+            first: self.first,
+            second: self.second,
+            third: Some(third),
+            first_number: self.first_number,
+            second_number: self.second_number,
+            third_number: number_of(third),
         }
     }
 
@@ -56,6 +77,13 @@ impl Wanted {
         ensures { result ≡ self.now.second }
     {
         self.second
+    }
+
+    /// The third of them, if one is wanted.
+    pub fn third(&self) -> Option<Id>
+        ensures { result ≡ self.now.third }
+    {
+        self.third
     }
 
     /// Whether an identifier is the first of them.
@@ -74,12 +102,20 @@ impl Wanted {
         number_of(id) == self.second_number
     }
 
+    /// Whether an identifier that is not the first of them is the third.
+    #[inline(always)]
+    pub fn is_third(&self, id: Id) -> bool
+        ensures { (id ≡ self.now.first → ⊥) → IsTrue result ↔ (self.now.third ≡ Some id) }
+    {
+        number_of(id) == self.third_number
+    }
+
     /// Whether an identifier is one of them.
     #[inline(always)]
     pub(crate) fn has(&self, id: Id) -> bool
-        ensures { IsTrue result ↔ ((id ≡ self.now.first) ⊎ (id ≡ self.now.second)) }
+        ensures { IsTrue result ↔ IsWanted self.now id }
     {
-        self.is_first(id) || self.is_second(id)
+        self.is_first(id) || self.is_second(id) || self.is_third(id)
     }
 }
 

@@ -5,7 +5,7 @@ use Rattle.std.specs.Prelude.{ℕ, ◌+◌, List, ◌++◌, nat_le, ◌==◌, if
 use Rattle.direction.specs.declared.Dir.{Dir}
 use Rattle.direction.specs.declared.Dir.TheVariants.{Tester, Unit}
 use Rattle.isotp_pdu.specs.Layout.{Layout}
-use Rattle.isotp_pdu.specs.declared.PduFault.{PduFault}
+use Rattle.isotp_receive.specs.declared.event.Reason.{Reason}
 use Rattle.isotp_receive.specs.Fit.{Fit, late, wrong_number, wrong_length, one_more, last}
 use Rattle.isotp_receive.specs.Trace.{FirstFrame, FrameRole, single, first, consecutive, continue_or_wait, overflow, no_part, own_role, other_role}
 use Rattle.isotp_receive.specs.StandingReception.{StandingReception, fit_of, Receptions}
@@ -56,7 +56,7 @@ after limit standing micros overflow = continue standing micros overflow
 after limit standing micros no_part = standing
 
 -- both after one more frame of this layout or fault
-abbrev pub both_after : ℕ → Receptions → ℕ → ℕ → Dir → Result Layout PduFault → Receptions
+abbrev pub both_after : ℕ → Receptions → ℕ → ℕ → Dir → Result Layout Reason → Receptions
 both_after limit both line micros Tester layout = record {
   tester = after limit both.tester micros (own_role line micros layout);
   unit = after limit both.unit micros (other_role layout);

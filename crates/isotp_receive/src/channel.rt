@@ -1,0 +1,41 @@
+//! The channels of a session: on which identifier a frame stands, and what may be sent on it.
+
+ghost use Rattle.std.specs.Prelude.{◌≡◌};
+ghost use Rattle.isotp_receive.specs.Channels.{dir_of, channel_of};
+
+use direction::Dir;
+
+/// On which of the identifiers of a session a frame stands (ISO 15765-2, section 5.3.4). Each has receptions of its own.
+#[derive(Clone, Copy, Debug, PartialEq, Eq)]
+pub enum Channel {
+    /// From the tester to the control unit.
+    Tester,
+    /// From the control unit to the tester.
+    Unit,
+    /// From the tester to all control units. Every message on it is one single frame.
+    Functional,
+}
+
+impl Channel {
+    /// The one on which a side sends to the other alone.
+    #[inline(always)]
+    pub fn of(dir: Dir) -> Channel
+        ensures { result ≡ channel_of dir }
+    {
+        match dir {
+            Dir::Tester => Channel::Tester,
+            Dir::Unit => Channel::Unit,
+        }
+    }
+
+    /// The side that sends on it.
+    #[inline(always)]
+    pub fn dir(self) -> Dir
+        ensures { result ≡ dir_of self }
+    {
+        match self {
+            Channel::Tester | Channel::Functional => Dir::Tester,
+            Channel::Unit => Dir::Unit,
+        }
+    }
+}
