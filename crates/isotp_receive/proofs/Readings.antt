@@ -84,7 +84,7 @@ read_from f (Ok found) is =
 read_from f (Err fault) is = tt
 
 -- what a frame says on a channel is its layout
-pub on_channel : (c : Channel) (r : Result Layout PduFault) (found : Layout) → layout_on c r ≡ Ok found → r ≡ Ok found
+on_channel : (c : Channel) (r : Result Layout PduFault) (found : Layout) → layout_on c r ≡ Ok found → r ≡ Ok found
 on_channel Tester (Ok said) found is = cc
 on_channel Tester (Err fault) found is = absurd (cc)
 on_channel Unit (Ok said) found is = cc
@@ -95,9 +95,13 @@ on_channel Functional (Ok (layout.consecutive sequence_number can_dl bytes)) fou
 on_channel Functional (Ok (layout.flow_control status)) found is = absurd (cc)
 on_channel Functional (Err fault) found is = absurd (cc)
 
-read_in : (e : Entry) (r : Result Layout Reason) → layout_in e ≡ r → IfOk r (IsReadFrom e.frame.bytes)
+-- what a frame says in a trace is its layout
+pub said_is_read : (e : Entry) (found : Layout) → layout_in e ≡ Ok found → layout_of e.frame ≡ Ok found
 unfolding layout_in
-read_in e (Ok found) is = read_from e.frame (Ok found) (on_channel e.channel (layout_of e.frame) found is)
+said_is_read e found is = on_channel e.channel (layout_of e.frame) found is
+
+read_in : (e : Entry) (r : Result Layout Reason) → layout_in e ≡ r → IfOk r (IsReadFrom e.frame.bytes)
+read_in e (Ok found) is = read_from e.frame (Ok found) (said_is_read e found is)
 read_in e (Err why) is = tt
 
 -- ---- what is known of a frame of each role, of these bytes
