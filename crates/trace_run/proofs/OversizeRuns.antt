@@ -32,7 +32,7 @@ module _ {A M W : Type 0} {machine : MachineGhosts M A} {target : TargetGhosts W
       let same_line = at.stopped.reason.1 in
       let found = oversize_stops MESSAGE_LIMIT settings log given line announced meanings what place (omega arith)
       (each_within settings meanings (at.stopped.within strict))
-      (line_announces settings what at.stamped at.dir (Some announced) at.means at.direction at.stopped.reason.2) in
+      (line_announces settings what at.stamped at.channel (Some announced) at.means at.found at.stopped.reason.2) in
       let count = min given settings.max_bytes in
       let read : AreLinesRead (passing (machine.script settings.rules begun.machine_start).strict MESSAGE_LIMIT settings) true count log
       meanings =

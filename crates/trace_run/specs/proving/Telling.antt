@@ -1,10 +1,9 @@
 -- Devices of proof: a machine was told the frames of a trace, and is told one more.
 use Rattle.std.specs.Prelude.{◌≡◌, ℕ, ◌⊎◌, Bool, true, false, List, [], ◌∷◌, ◌++◌, Option, Some, None, Result, OnOk, IfErr}
 use Rattle.std.specs.List.{AllByRecursion}
-use Rattle.isotp_pdu.specs.Reading.{layout_of}
 use Rattle.isotp_receive.specs.declared.TheConstants.{MESSAGE_LIMIT}
 use Rattle.isotp_receive.specs.Events.{oversize_in, too_long_in}
-use Rattle.isotp_receive.specs.Trace.{Entry}
+use Rattle.isotp_receive.specs.Trace.{Entry, layout_in}
 use Rattle.isotp_receive.specs.Verdict.{VerdictValue}
 use Rattle.trace_io.specs.declared.device.Target.{Ghosts as TargetGhosts}
 use Rattle.trace_log.specs.Needing.{IsKeptOrMasked}
@@ -29,7 +28,7 @@ oversize_for false did = None
 -- why a run stopped at the frame e
 abbrev pub StopsFor : Bool → List RuleValue → Needing → List Entry → Entry → Fault → Type 0
 StopsFor strict rules needs T e (fault.Oversize line announced) =
-    (strict ≡ true) × (line ≡ e.line) × (oversize_in MESSAGE_LIMIT (layout_of e.frame) ≡ Some announced)
+    (strict ≡ true) × (line ≡ e.line) × (oversize_in MESSAGE_LIMIT (layout_in e) ≡ Some announced)
 StopsFor strict rules needs T e fault.Memory =
     (strict ≡ true → AnnouncesWithin e) × (IsKeptOrMasked MESSAGE_LIMIT rules T e ⊎ needs T e)
 StopsFor strict rules needs T e (fault.BadLine line column) = ⊥
@@ -38,9 +37,9 @@ StopsFor strict rules needs T e fault.OutputLimit = ⊥
 StopsFor strict rules needs T e fault.Read = ⊥
 StopsFor strict rules needs T e fault.Write = ⊥
 
--- this is what the frame e did after the frames T: `IsEventOf` of an event with its line, time and direction beside it
+-- this is what the frame e did after the frames T: `IsEventOf` of an event with its line, time and channel beside it
 abbrev pub IsFrameEvent : List Entry → Entry → FrameEvent → Type 0
-IsFrameEvent T e frame = IsEventOf T e frame.line frame.micros frame.dir frame.event
+IsFrameEvent T e frame = IsEventOf T e frame.line frame.micros frame.channel frame.event
 
 -- A machine and a target as they were: since then frames are told to the one under these rules, and their text is
 -- written to the other.

@@ -2,6 +2,7 @@
 -- memory for it; then it is judged, and the machine says its text, or is refused memory.
 use Rattle.std.proofs.Common.{◌++◌, ◌+◌, [], ◌≡◌, ap, sym, subst, ◌∙◌, None, Some, inl, inr}
 use Rattle.isotp_receive.specs.declared.TheConstants.{MESSAGE_LIMIT}
+use Rattle.isotp_receive.specs.Channels.{dir_of}
 use Rattle.isotp_receive.specs.EventSeen.{seen_event}
 use Rattle.isotp_receive.specs.Verdict.{EventValue, told_message}
 use Rattle.trace_log.specs.Messages.{messages_under}
@@ -60,17 +61,17 @@ returns-in-Err-clause-told g c = λ T e seen.
 pub returns-in-Ok-tell-clause-told : goal.returns-in-Ok-tell-clause-told
 returns-in-Ok-tell-clause-told g c = λ T e seen.
     let M = g.M.Machine in
-    let d = c.args.frame.dir in
+    let d = dir_of c.args.frame.channel in
     let event = seen_event c.args.frame.event in
-    let shown = c.shown-shown.ensures c.args.config.now.rules d c.in-Ok.ensures.ok in
-    let told = sym (told_by T e d event seen.dir seen.did) in
+    let shown = c.shown-shown.ensures c.args.config.now.rules c.dir.result c.in-Ok.ensures.ok in
+    let told = sym (told_by T e c.args.frame.channel event seen.channel seen.did) in
     let out = c.args.self.now.ruling.left_out in
     record {
       ok = λ start ruled tells.
           let rules = start.rules in
           let few = few_under rules T seen.few in
           let strict = c.is_strict.ensures rules start.machine T tells.machine_stands in
-          let left = shown ∙ ap (λ r. under r (told_message d event.verdict)) (sym ruled) in
+          let left = shown ∙ ap (λ r. under r (told_message c.dir.result event.verdict)) (sym ruled) ∙ ap (λ x. under rules (told_message x event.verdict)) c.dir.ensures in
           let said = c.in-Ok-tell.ensures.ok rules start.machine T e
           (seen_under rules T e _ _ seen left
           (c.judged_message-message.ensures.judged (messages_under rules MESSAGE_LIMIT T) few tells.judged.judged.counted))
@@ -85,7 +86,7 @@ returns-in-Ok-tell-clause-told g c = λ T e seen.
       kept = λ start earlier ruled tells sure.
           let rules = start.rules in
           let few = few_under rules T seen.few in
-          let left = shown ∙ ap (λ r. under r (told_message d event.verdict)) (sym ruled) in
+          let left = shown ∙ ap (λ r. under r (told_message c.dir.result event.verdict)) (sym ruled) ∙ ap (λ x. under rules (told_message x event.verdict)) c.dir.ensures in
           let said = c.in-Ok-tell.ensures.ok rules start.machine T e
           (seen_under rules T e _ _ seen left
           (c.judged_message-message.ensures.judged (messages_under rules MESSAGE_LIMIT T) few tells.judged.judged.counted))
@@ -102,16 +103,16 @@ returns-in-Ok-tell-clause-told g c = λ T e seen.
 pub returns-in-Err-tell-clause-told : goal.returns-in-Err-tell-clause-told
 returns-in-Err-tell-clause-told g c = λ T e seen.
     let M = g.M.Machine in
-    let d = c.args.frame.dir in
+    let d = dir_of c.args.frame.channel in
     let event = seen_event c.args.frame.event in
-    let shown = c.shown-shown.ensures c.args.config.now.rules d c.in-Ok.ensures.ok in
+    let shown = c.shown-shown.ensures c.args.config.now.rules c.dir.result c.in-Ok.ensures.ok in
     record {
       ok = tt;
       err = λ start ruled tells.
           let rules = start.rules in
           let few = few_under rules T seen.few in
           let strict = c.is_strict.ensures rules start.machine T tells.machine_stands in
-          let left = shown ∙ ap (λ r. under r (told_message d event.verdict)) (sym ruled) in
+          let left = shown ∙ ap (λ r. under r (told_message c.dir.result event.verdict)) (sym ruled) ∙ ap (λ x. under rules (told_message x event.verdict)) c.dir.ensures in
           let needs = c.in-Err-tell.ensures.needs rules start.machine T e
           (seen_under rules T e _ _ seen left
           (c.judged_message-message.ensures.judged (messages_under rules MESSAGE_LIMIT T) few tells.judged.judged.counted))
