@@ -1,5 +1,5 @@
 -- Frames that are sent to all: no reception stands for them, and they touch none.
-use Rattle.std.proofs.Common.{◌≡◌, ℕ, true, List, [], ◌∷◌, ◌++◌, Option, None, Result, Ok, Err, refl, sym, ◌∙◌, ap, arith}
+use Rattle.std.proofs.Common.{◌≡◌, ℕ, List, [], ◌∷◌, ◌++◌, Option, None, Result, Ok, Err, refl, sym, subst, ◌∙◌, ap, arith}
 use Rattle.std.specs.Prelude.{if◌then◌else◌}
 use Rattle.isotp_pdu.specs.Layout.{Layout}
 use Rattle.isotp_pdu.specs.Layout as layout
@@ -11,7 +11,7 @@ use Rattle.direction.specs.declared.Dir.TheVariants as dir
 use Rattle.isotp_receive.specs.declared.event.Reason.{Reason}
 use Rattle.isotp_receive.specs.proving.Machine.{after}
 use Rattle.isotp_receive.specs.Verdict.{EventValue, VerdictValue, told_to_all, on_layout, verdict}
-use Rattle.isotp_receive.specs.Channels.{same_channel, to_all, layout_on}
+use Rattle.isotp_receive.specs.Channels.{same_channel, channel_of, to_all, layout_on}
 use Rattle.isotp_receive.specs.declared.channel.Channel.{Channel}
 use Rattle.isotp_receive.specs.declared.channel.Channel.TheVariants.{Tester, Unit, Functional}
 use Rattle.isotp_receive.specs.Trace.{Entry, no_part, role, own_role, other_role, layout_in}
@@ -60,7 +60,10 @@ no-part (Ok (layout.consecutive sequence_number can_dl bytes)) = refl
 no-part (Ok (layout.flow_control status)) = refl
 no-part (Err fault) = refl
 
--- a frame of these parts that is sent to all
+-- a frame of these parts, and one that is sent to all
+abbrev on : ℕ → ℕ → Channel → FrameValue → Entry
+on line micros channel frame = record { line = line; micros = micros; channel = channel; frame = frame }
+
 abbrev to_all_units : ℕ → ℕ → FrameValue → Entry
 to_all_units line micros frame = record { line = line; micros = micros; channel = Functional; frame = frame }
 
@@ -93,11 +96,24 @@ told-alone limit T line micros frame =
 
 -- ---- so it is for any frame of the channel
 
+part-of : (x : Dir) (line micros : ℕ) (frame : FrameValue) → role (channel_of x) (to_all_units line micros frame) ≡ no_part
+unfolding role layout_in
+part-of dir.Tester line micros frame = no-part (layout_of frame)
+part-of dir.Unit line micros frame = no-part (layout_of frame)
+
+-- it has no part in the receptions of a side
+pub functional-has-no-part : (x : Dir) (e : Entry) → e.channel ≡ Functional → role (channel_of x) e ≡ no_part
+functional-has-no-part x e is = subst (λ c. role (channel_of x) (on e.line e.micros c e.frame) ≡ no_part) (sym is) (part-of x e.line e.micros e.frame)
+
 pub functional_frames_stand_alone : FunctionalFramesStandAlone
 functional_frames_stand_alone limit T e is = record {
-  untouched = rw is at (sym (untouched limit T e.line e.micros e.frame));
+  untouched =
+      subst (λ c. receptions_after limit (T ++ on e.line e.micros c e.frame ∷ []) ≡ receptions_after limit T) (sym is)
+      (sym (untouched limit T e.line e.micros e.frame));
   none_stands = nothing-functional limit T;
-  alone = rw is at (sym (told-alone limit T e.line e.micros e.frame));
+  alone =
+      subst (λ c. verdict limit T (on e.line e.micros c e.frame) ≡ record { ended = None; verdict = told_to_all (layout_of e.frame) }) (sym is)
+      (sym (told-alone limit T e.line e.micros e.frame));
 }
 
 -- ---- what a pair is that took one: as it was

@@ -5,7 +5,7 @@ pub use Rattle.isotp_receive.proofs.StandingLaws.{kept-bytes as keeps_fewer_byte
 pub use Rattle.isotp_receive.proofs.DeliversLaws.{message-delivers as a_message_is_delivered}
 pub use Rattle.isotp_receive.proofs.DeliveredMessages.{messages_are_delivered}
 pub use Rattle.isotp_receive.proofs.VerdictLaws.{table-is-verdict as the_verdict_is_tabled}
-pub use Rattle.isotp_receive.proofs.FunctionalFrames.{functional_frames_stand_alone}
+pub use Rattle.isotp_receive.proofs.FunctionalFrames.{functional_frames_stand_alone, functional-has-no-part as functional_has_no_part}
 pub use Rattle.isotp_receive.proofs.Fits.{room-join as places_agree_on_bytes, fits-join as places_agree_on_fit}
 pub use Rattle.isotp_receive.proofs.Delivered.{recording-delivers as recording_delivers, recording-delivers-behind as recording_delivers_behind}
 pub use Rattle.isotp_receive.proofs.Delivered.{delivers-at-last as recording_delivers_at_last_position}

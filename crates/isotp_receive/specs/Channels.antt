@@ -40,6 +40,12 @@ same_channel Functional Tester = false
 same_channel Functional Unit = false
 same_channel Functional Functional = true
 
+-- it is the one on which the tester asks all units
+abbrev pub is_functional : Channel → Bool
+is_functional Tester = false
+is_functional Unit = false
+is_functional Functional = true
+
 -- what a frame says to one unit, or why it is dropped
 abbrev pub to_one : Result Layout PduFault → Result Layout Reason
 to_one (Ok said) = Ok said

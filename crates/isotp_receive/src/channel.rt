@@ -1,7 +1,7 @@
 //! The channels of a session: on which identifier a frame stands, and what may be sent on it.
 
 ghost use Rattle.std.specs.Prelude.{◌≡◌};
-ghost use Rattle.isotp_receive.specs.Channels.{dir_of, channel_of};
+ghost use Rattle.isotp_receive.specs.Channels.{dir_of, channel_of, is_functional};
 
 use direction::Dir;
 
@@ -25,6 +25,17 @@ impl Channel {
         match dir {
             Dir::Tester => Channel::Tester,
             Dir::Unit => Channel::Unit,
+        }
+    }
+
+    /// Whether it is the one on which the tester asks all units.
+    #[inline(always)]
+    pub fn is_functional(self) -> bool
+        ensures { result ≡ is_functional self }
+    {
+        match self {
+            Channel::Functional => true,
+            Channel::Tester | Channel::Unit => false,
         }
     }
 

@@ -76,5 +76,5 @@ pub counts_next : (own rules : List RuleValue) (T : List Entry) (e : Entry) (see
     → new ≡ spoken_counts rules (messages MESSAGE_LIMIT (T ++ e ∷ []))
 counts_next own rules T e seen old new is same stood counted =
     let M = messages MESSAGE_LIMIT T in
-    let behind = counted M seen.dir (few_messages T is.event.few) (stood ∙ ap (λ (l : List RuleValue). spoken_counts l M) (sym same)) in
+    let behind = counted M (dir_of seen.channel) (few_messages T is.event.few) (stood ∙ ap (λ (l : List RuleValue). spoken_counts l M) (sym same)) in
     spoken_next own rules T e seen new is behind ∙ ap (λ (l : List RuleValue). spoken_counts l (messages MESSAGE_LIMIT (T ++ e ∷ []))) same

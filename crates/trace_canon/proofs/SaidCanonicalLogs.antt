@@ -46,7 +46,7 @@ module _ (settings : Settings) where
   one_more T e =
       let M = messages_under settings.rules MESSAGE_LIMIT T in
       let now = messages_under settings.rules MESSAGE_LIMIT (T ++ e ∷ []) in
-      let grows = early_grows M (under settings.rules (told_message e.dir (verdict MESSAGE_LIMIT T e).verdict)) in
+      let grows = early_grows M (under settings.rules (told_message (dir_of e.channel) (verdict MESSAGE_LIMIT T e).verdict)) in
       let longer : early now ≡ early M ++ grows.0 = ap early (messages_under_more settings.rules MESSAGE_LIMIT T e) ∙ grows.1 in
       let left : drop (length (early M)) (early now) ≡ grows.0 =
       ap (drop (length (early M))) longer ∙ drop-append_seam (early M) grows.0 in

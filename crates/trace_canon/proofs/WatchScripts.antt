@@ -175,7 +175,7 @@ module _ (style : ItemStyle) (limit : ℕ) (rules : List RuleValue) where
       ≡ list_text rules style (decided_of limit rules (T ++ e ∷ []))
   next_said T e =
       let M = messages_under rules limit T in
-      let grows = decided_grows M (under rules (told_message e.dir (verdict limit T e).verdict)) in
+      let grows = decided_grows M (under rules (told_message (dir_of e.channel) (verdict limit T e).verdict)) in
       let longer : decided_of limit rules (T ++ e ∷ []) ≡ decided M ++ grows.0 =
       ap decided (messages_under_more rules limit T e) ∙ grows.1 in
       let left : newly_decided limit rules T e ≡ grows.0 =

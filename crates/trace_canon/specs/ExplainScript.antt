@@ -51,6 +51,6 @@ end_text notation receptions summary = unfinished_text notation receptions ++ re
 abbrev pub explain_script : Notation → ℕ → Script
 explain_script notation limit = record {
   strict = false;
-  of_frame = λ T e. event_text notation e.line e.dir (verdict limit T e);
+  of_frame = λ T e. event_text notation e.line (dir_of e.channel) (verdict limit T e);
   at_the_end = λ T summary. end_text notation (receptions_after limit T) summary;
 }

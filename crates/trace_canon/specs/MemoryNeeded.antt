@@ -2,6 +2,7 @@
 use Rattle.std.specs.Prelude.{◌≡◌, ℕ, ◌⊎◌, List, Option, Some}
 use Rattle.can_log.specs.declared.frame.Stamped.{Stamped}
 use Rattle.direction.specs.Dir.{Message}
+use Rattle.isotp_receive.specs.Channels.{dir_of}
 use Rattle.isotp_receive.specs.Trace.{Entry}
 use Rattle.isotp_receive.specs.Verdict.{message, verdict}
 use Rattle.uds_exchange.specs.Decider.{IsKept}
@@ -18,7 +19,7 @@ use Rattle.uds_find.specs.Asking.{HasAsking}
 abbrev pub CompletesSuch : (List Message → Message → Type 0) → ℕ → List RuleValue → List Entry → Entry → Type 0
 CompletesSuch IsSuch limit rules T e =
     (whole : List ℕ) × (bytes : List ℕ) × ((verdict limit T e).verdict ≡ message whole) × (made_of rules whole ≡ Some bytes)
-    × IsSuch (messages_under rules limit T) (e.dir, bytes)
+    × IsSuch (messages_under rules limit T) (dir_of e.channel, bytes)
 
 -- The frame completes a message that is held: a stray behind a request that waits for its answer.
 abbrev pub CompletesHeld : ℕ → List RuleValue → List Entry → Entry → Type 0

@@ -76,7 +76,13 @@ impl Machine for Explainer {
 
     #[inline(always)]
     fn event<S: TextSink>(&mut self, seen: Seen<'_>, out: &mut S) -> Result<(), AllocError> {
-        say_event(self.notation, seen.line, seen.dir, seen.event, out);
+        say_event(
+            self.notation,
+            seen.line,
+            seen.channel.dir(),
+            seen.event,
+            out,
+        );
         Ok(())
     }
 

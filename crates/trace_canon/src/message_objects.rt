@@ -2,7 +2,7 @@
 ghost use Rattle.trace_text.specs.Json.{object_line};
 ghost use Rattle.trace_canon.specs.MessagesScript.{judged_at, placed_members};
 
-use crate::message_parts::{FrameExtent, Role};
+use crate::message_parts::{FrameExtent, FunctionalMark, Role};
 use text_parts::say;
 use trace_io::TextSink;
 use trace_text::{Number, RuledBytes, Sender, Stamp};
@@ -42,7 +42,9 @@ pub(crate) fn say_message_object<S: TextSink>(
                 Stamp(extent.last.micros),
             ),
             (
-                "\",\"message\":\"",
+                "\"",
+                FunctionalMark(extent.is_functional),
+                ",\"message\":\"",
                 RuledBytes {
                     rules,
                     message: message.bytes,

@@ -26,6 +26,8 @@ impl Part for Role {
 pub(crate) struct FrameExtent {
     pub first: FramePlace,
     pub last: FramePlace,
+    /// Whether they are one frame that the tester sent to all units.
+    pub is_functional: bool,
 }
 
 impl Part for FrameExtent {
@@ -48,5 +50,20 @@ impl Part for FrameExtent {
                 Stamp(self.last.micros),
             ),
         );
+    }
+}
+
+/// The member of an object that marks a message to all units, behind another one; none for any other message.
+#[derive(Clone, Copy)]
+pub(crate) struct FunctionalMark(pub bool);
+
+impl Part for FunctionalMark {
+    ghost use Rattle.trace_canon.specs.MessagesScript.{functional_mark};
+
+    ghost text = { λ mark. functional_mark mark.0 };
+
+    #[inline(always)]
+    fn say<S: TextSink>(self, out: &mut S) {
+        say(out, if self.0 { ",\"functional\":true" } else { "" });
     }
 }

@@ -84,9 +84,13 @@ impl<'a> Machine for Messenger<'a> {
             line: seen.line,
             micros: seen.micros,
         };
-        let first = self.starts.take(here, seen.dir, seen.event);
+        let first = self.starts.take(here, seen.channel, seen.event);
         if let Some(message) = seen.message {
-            let extent = FrameExtent { first, last: here };
+            let extent = FrameExtent {
+                first,
+                last: here,
+                is_functional: seen.channel.is_functional(),
+            };
             say_message(self.notation, self.rules, &message, extent, out);
         }
         Ok(())

@@ -9,7 +9,7 @@ use Rattle.direction.specs.declared.Dir.TheVariants as dir
 use Rattle.can_log.specs.Frame.{IsForeign}
 use Rattle.can_log.specs.declared.frame.Id.{Id}
 use Rattle.can_log.specs.declared.frame.Id.TheVariants as id
-use Rattle.trace_log.specs.Settings.{Settings, AreSettings, IsFunctionalOf, wanted_of, id_of, id_on, is_same_id, is_functional, channel_by}
+use Rattle.trace_log.specs.Settings.{Settings, AreSettings, IsFunctionalOf, wanted_of, id_of, id_on, is_same_id, has_id, channel_by}
 use Rattle.trace_log.specs.Laws.{ChannelIsById}
 
 equal_ids : (a b : Id) → is_same_id a b ≡ true → a ≡ b
@@ -42,10 +42,10 @@ unfolding channel_by
 functional_channel settings id not_tester not_unit is =
     let first = other_id id settings.tester not_tester in
     let second = other_id id settings.unit not_unit in
-    let third : is_functional settings.functional id ≡ true = ap (λ f. is_functional f id) is ∙ own_id id in
+    let third : has_id settings.functional id ≡ true = ap (λ f. has_id f id) is ∙ own_id id in
     rw (first, second, third) refl
 
-not_functional : (functional : Option Id) (id : Id) → functional ≢ Some id → is_functional functional id ≡ false
+not_functional : (functional : Option Id) (id : Id) → functional ≢ Some id → has_id functional id ≡ false
 not_functional None id apart = refl
 not_functional (Some functional) id apart = other_id id functional (λ same. apart (ap Some (sym same)))
 
@@ -75,7 +75,7 @@ pub channel_of_side : (settings : Settings) (d : Dir) → AreSettings settings �
 channel_of_side settings dir.Tester are = channel_of_id settings channel.Tester settings.tester are refl
 channel_of_side settings dir.Unit are = channel_of_id settings channel.Unit settings.unit are refl
 
-functional_is : (o : Option Id) (id : Id) → is_functional o id ≡ true → o ≡ Some id
+functional_is : (o : Option Id) (id : Id) → has_id o id ≡ true → o ≡ Some id
 functional_is None id same = absurd (cc)
 functional_is (Some functional) id same = ap Some (sym (equal_ids id functional same))
 
@@ -83,21 +83,21 @@ id_of_channel : (settings : Settings) (id : Id) (c : Channel) → channel_by set
 unfolding channel_by
 id_of_channel settings id c is = go (is_same_id id settings.tester) refl is
   where
-    third : (b : Bool) → is_functional settings.functional id ≡ b → cond b (Some channel.Functional) None ≡ Some c → id_on settings c ≡ Some id
+    third : (b : Bool) → has_id settings.functional id ≡ b → cond b (Some channel.Functional) None ≡ Some c → id_on settings c ≡ Some id
     third true same is =
         let channel_is : channel.Functional ≡ c = cc in
         subst (λ e. id_on settings e ≡ Some id) channel_is (functional_is settings.functional id same)
     third false other is = absurd (cc)
 
     second : (b : Bool) → is_same_id id settings.unit ≡ b
-        → cond b (Some channel.Unit) (cond (is_functional settings.functional id) (Some channel.Functional) None) ≡ Some c → id_on settings c ≡ Some id
+        → cond b (Some channel.Unit) (cond (has_id settings.functional id) (Some channel.Functional) None) ≡ Some c → id_on settings c ≡ Some id
     second true same is =
         let channel_is : channel.Unit ≡ c = cc in
         subst (λ e. id_on settings e ≡ Some id) channel_is (ap Some (sym (equal_ids id settings.unit same)))
-    second false other is = third (is_functional settings.functional id) refl is
+    second false other is = third (has_id settings.functional id) refl is
 
     go : (b : Bool) → is_same_id id settings.tester ≡ b
-        → cond b (Some channel.Tester) (cond (is_same_id id settings.unit) (Some channel.Unit) (cond (is_functional settings.functional id) (Some channel.Functional) None)) ≡ Some c
+        → cond b (Some channel.Tester) (cond (is_same_id id settings.unit) (Some channel.Unit) (cond (has_id settings.functional id) (Some channel.Functional) None)) ≡ Some c
         → id_on settings c ≡ Some id
     go true same is =
         let channel_is : channel.Tester ≡ c = cc in

@@ -74,17 +74,17 @@ is_same_id (id.Std a) (id.Ext b) = false
 is_same_id (id.Ext a) (id.Std b) = false
 is_same_id (id.Ext a) (id.Ext b) = a == b
 
--- the identifier is that of functional requests
-abbrev pub is_functional : Option Id → Id → Bool
-is_functional None id = false
-is_functional (Some functional) id = is_same_id id functional
+-- there is one, and it is this
+abbrev pub has_id : Option Id → Id → Bool
+has_id None id = false
+has_id (Some functional) id = is_same_id id functional
 
 -- The channel of the frames with this identifier. All other frames are foreign, and have none.
 unfoldable pub channel_by : Settings → Id → Option Channel
 channel_by settings id =
     if is_same_id id settings.tester then Some channel.Tester
     else if is_same_id id settings.unit then Some channel.Unit
-    else if is_functional settings.functional id then Some channel.Functional
+    else if has_id settings.functional id then Some channel.Functional
     else None
 
 -- the identifier of the frames of a channel, where it has one

@@ -128,6 +128,7 @@ impl Part for DropReason {
                 ),
             ),
             Reason::NextLength => say(out, "consecutive frame length"),
+            Reason::FunctionalNotSingle => say(out, "functional frame not single"),
             Reason::TooLong { announced } => say(out, (Length(announced), " bytes announced")),
         }
     }

@@ -93,7 +93,8 @@ impl Part for ReasonMembers {
             | Reason::FlowUnexpected
             | Reason::NextUnexpected
             | Reason::NextLate
-            | Reason::NextLength => say(out, (",\"reason\":\"", DropReason(self.0), "\"")),
+            | Reason::NextLength
+            | Reason::FunctionalNotSingle => say(out, (",\"reason\":\"", DropReason(self.0), "\"")),
         }
     }
 }
