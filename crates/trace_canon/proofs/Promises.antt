@@ -8,6 +8,7 @@ use Rattle.can_log.specs.Frame.{FrameValue}
 use Rattle.direction.specs.Dir.{other_direction}
 use Rattle.direction.specs.declared.Dir.{Dir}
 use Rattle.isotp_pdu.specs.Reading.{layout_of}
+use Rattle.isotp_receive.specs.Channels.{channel_of, to_one}
 use Rattle.isotp_receive.specs.Trace.{Entry, role, own_role, other_role}
 use Rattle.uds_exchange.specs.Meaning.{ItemValue}
 use Rattle.trace_io.specs.Counted.{BytesInMemory}
@@ -31,15 +32,16 @@ use Rattle.trace_canon.proofs.NextStarts as next_starts
 
 -- ---- frames and messages
 
--- what a frame is to the direction of its sender
+-- what a frame that a side sends to the other alone is to its own receptions
 pub role_own : (d : Dir) (line micros : ℕ) (frame : FrameValue)
-    → role d (record { line = line; micros = micros; dir = d; frame = frame }) ≡ own_role line micros (layout_of frame)
+    → role (channel_of d) (record { line = line; micros = micros; channel = channel_of d; frame = frame })
+    ≡ own_role line micros (to_one (layout_of frame))
 role_own d line micros frame = next_starts.role_own d line micros frame
 
--- what it is to the other direction
+-- what it is to the other ones
 pub role_other : (d : Dir) (line micros : ℕ) (frame : FrameValue)
-    → role (other_direction d) (record { line = line; micros = micros; dir = d; frame = frame })
-    ≡ other_role (layout_of frame)
+    → role (channel_of (other_direction d)) (record { line = line; micros = micros; channel = channel_of d; frame = frame })
+    ≡ other_role (to_one (layout_of frame))
 role_other d line micros frame = next_starts.role_other d line micros frame
 
 -- a log whose meaning has an item needs memory to be collected

@@ -5,6 +5,7 @@ use Rattle.std.proofs.Common.{ap, sym, subst, ◌∙◌, append-nil, append_asso
 use Rattle.std.proofs.Math.Seq.{drop-append_seam}
 use Rattle.std.specs.Prelude.{OnOk}
 use Rattle.direction.specs.Dir.{Message}
+use Rattle.isotp_receive.specs.Channels.{dir_of}
 use Rattle.isotp_receive.specs.declared.TheConstants.{MESSAGE_LIMIT}
 use Rattle.isotp_receive.specs.Trace.{Entry}
 use Rattle.isotp_receive.specs.Verdict.{messages, told_message, verdict}

@@ -97,7 +97,7 @@ impl LineTaker for Hearer {
 
     ghost sure = { λ s first t. ⊤ };
 
-    ghost wants = { λ s first second. ⊥ };
+    ghost wants = { λ s wanted. ⊥ };
 
     fn wanted(&self) -> Option<&Wanted> {
         None

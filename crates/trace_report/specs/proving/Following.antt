@@ -5,7 +5,11 @@ use Rattle.direction.specs.declared.Dir.{Dir}
 use Rattle.direction.specs.declared.Dir.TheVariants.{Tester, Unit}
 use Rattle.isotp_receive.specs.declared.TheConstants.{MESSAGE_LIMIT}
 use Rattle.isotp_receive.specs.StandingReception.{StandingReception, stands}
-use Rattle.isotp_receive.specs.Trace.{Entry, same_direction}
+use Rattle.isotp_receive.specs.Channels.{channel_of, same_channel}
+use Rattle.isotp_receive.specs.Trace.{Entry}
+use Rattle.isotp_receive.specs.declared.channel.Channel.{Channel}
+use Rattle.isotp_receive.specs.declared.channel.Channel.TheVariants as on
+use Rattle.isotp_receive.specs.declared.event.Ended.{Ended}
 use Rattle.isotp_receive.specs.Verdict.{EventValue, VerdictValue, message, began, stored, flowed, dropped, messages}
 use Rattle.uds_exchange.specs.Judging.{one_more, step_after}
 use Rattle.uds_exchange.specs.proving.ItemNumbers.{open_number_if_any}
@@ -14,7 +18,8 @@ use Rattle.uds_message.specs.Message.{is_suppressing}
 use Rattle.uds_rules.specs.Rule.{RuleValue}
 use Rattle.trace_log.specs.Messages.{messages_under}
 use Rattle.trace_canon.specs.declared.reception_starts.FramePlace.{FramePlace}
-use Rattle.trace_canon.specs.ReceptionStarts.{AreStartsAfter}
+use Rattle.trace_canon.specs.declared.reception_starts.ReceptionStarts.{ReceptionStarts}
+use Rattle.trace_canon.specs.ReceptionStarts.{AreStartsAfter, still_begun}
 use Rattle.trace_report.specs.Blocks.{blocks_of}
 use Rattle.trace_report.specs.Events.{asked_in, is_request_step, ends_nothing, rows_of}
 use Rattle.trace_report.specs.Front.{PageTitleValue}
@@ -33,7 +38,7 @@ use Rattle.trace_report.specs.declared.times.Times.{Times}
 use Rattle.trace_report.specs.declared.row.SessionRow.{SessionRow}
 use Rattle.trace_report.specs.proving.Pages.{title_of}
 
--- how many consecutive frames a reception took, after what became of a frame of the same direction or the other one
+-- how many consecutive frames a reception took, after what became of a frame of its channel or of another
 abbrev pub counted_by : Bool → VerdictValue → ℕ → ℕ
 counted_by true began taken = 0
 counted_by true stored taken = one_more taken
@@ -42,13 +47,13 @@ counted_by true flowed taken = taken
 counted_by true (dropped reason) taken = taken
 counted_by false did taken = taken
 
--- how many consecutive frames the reception of d took, after what became of a frame of `sender`
-abbrev pub taken_after : Dir → Dir → VerdictValue → ℕ → ℕ
-taken_after d sender did taken = counted_by (same_direction d sender) did taken
+-- how many consecutive frames the reception of d took, after what became of a frame of this channel
+abbrev pub taken_after : Dir → Channel → VerdictValue → ℕ → ℕ
+taken_after d channel did taken = counted_by (same_channel (channel_of d) channel) did taken
 
 -- this many consecutive frames were taken by the reception of d that stands after the frames T, if one does
 abbrev pub IsTaken : Dir → List Entry → ℕ → Type 0
-IsTaken d T taken = IfSome (stands MESSAGE_LIMIT d T) (λ (standing : StandingReception). taken ≡ standing.taken)
+IsTaken d T taken = IfSome (stands MESSAGE_LIMIT (channel_of d) T) (λ (standing : StandingReception). taken ≡ standing.taken)
 
 -- these counts of consecutive frames are known after the frames T
 pub record CountFrames (T : List Entry) (counts : FrameCounts) : Type 0 where
@@ -60,6 +65,13 @@ pub record CountFrames (T : List Entry) (counts : FrameCounts) : Type 0 where
 abbrev pub frames_with : Option FramePlace → ℕ → ℕ
 frames_with None taken = 1
 frames_with (Some begun) taken = one_more (one_more taken)
+
+-- how many frames carry a message that a frame of this channel completed, and that ended this, by where the receptions
+-- began and how many consecutive frames they took: one to all units is carried by one
+abbrev pub frames_counted : Channel → Option Ended → ReceptionStarts → FrameCounts → ℕ
+frames_counted on.Tester ended begun counts = frames_with (still_begun Tester ended begun.tester) counts.tester
+frames_counted on.Unit ended begun counts = frames_with (still_begun Unit ended begun.unit) counts.unit
+frames_counted on.Functional ended begun counts = 1
 
 -- where the receptions began that stand after the frames T, and how many frames they took
 pub record KnowsExtents (T : List Entry) (extents : ReceptionExtents) : Type 0 where
