@@ -27,7 +27,7 @@ use Rattle.trace_text.specs.RemarkLines.{cause_text, layout_fault_text, reason_m
 use Rattle.trace_canon.specs.CreditLines.{credit_object}
 use Rattle.trace_text.specs.Json.{Members, null, truth, number, pair, string, object, nothing, member}
 use Rattle.trace_text.specs.ItemLines.{answer_members, outcome_members, item_members, item_object}
-use Rattle.trace_canon.specs.MessagesScript.{placed_members}
+use Rattle.trace_canon.specs.MessagesScript.{functional_member, placed_members}
 use Rattle.trace_text.specs.Words.{role_text}
 use Rattle.trace_text.specs.RuledText.{ruled_text}
 use Rattle.trace_text.specs.Words.{direction_text, service_text, code_text}
@@ -161,6 +161,23 @@ role_plain becomes.Removed = plain (codes "pending") refl
 role_plain becomes.Hold = plain (codes "stray") refl
 role_plain becomes.Pass = plain (codes "stray") refl
 
+functional_plain : (to_all : Bool) (message : List ℕ) → IsPlain message
+    → ArePlain 1 (functional_member to_all (member (codes "message") (string message) nothing))
+functional_plain true message is = (
+  plain (codes "functional") refl,
+  tt,
+  (
+    plain (codes "message") refl,
+    is,
+    tt,
+  ),
+)
+functional_plain false message is = (
+  plain (codes "message") refl,
+  is,
+  tt,
+)
+
 pub messages_are_read_as_meant : MessagesAreReadAsMeant
 messages_are_read_as_meant rules placed =
     read_as_meant (placed_members rules placed) (
@@ -184,11 +201,7 @@ messages_are_read_as_meant rules placed =
                 (
                   plain (codes "end") refl,
                   stamp_plain placed.extent.last.micros,
-                  (
-                    plain (codes "message") refl,
-                    message_plain rules placed.sent.1,
-                    tt,
-                  ),
+                  functional_plain placed.extent.is_functional (ruled_text rules placed.sent.1) (message_plain rules placed.sent.1),
                 ),
               ),
             ),
@@ -218,6 +231,7 @@ reason_plain (reason.NextSequence expected found) = (
   ),
 )
 reason_plain reason.NextLength = (plain (codes "reason") refl, plain (codes "consecutive frame length") refl, tt)
+reason_plain reason.FunctionalNotSingle = (plain (codes "reason") refl, plain (codes "functional frame not single") refl, tt)
 reason_plain (reason.TooLong announced) = (
   plain (codes "reason") refl,
   plain (codes "bytes announced") refl,

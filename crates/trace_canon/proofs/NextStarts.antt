@@ -32,7 +32,7 @@ use Rattle.trace_canon.specs.declared.reception_starts.FramePlace.{FramePlace}
 use Rattle.trace_canon.specs.declared.reception_starts.ReceptionStarts.{ReceptionStarts}
 
 -- whether two sides are one
-same-side : (d : Dir) → same_direction d d ≡ true
+pub same-side : (d : Dir) → same_direction d d ≡ true
 same-side Tester = refl
 same-side Unit = refl
 
@@ -180,7 +180,7 @@ role_other Tester line micros frame = refl
 role_other Unit line micros frame = refl
 
 -- and what it does
-verdict_of : (d : Dir) (T : List Entry) (line micros : ℕ) (frame : FrameValue)
+pub verdict_of : (d : Dir) (T : List Entry) (line micros : ℕ) (frame : FrameValue)
     → verdict MESSAGE_LIMIT T (entry_at line micros (channel_of d) frame)
     ≡ on_layout MESSAGE_LIMIT d (stands MESSAGE_LIMIT (channel_of d) T) (stands MESSAGE_LIMIT (channel_of (other_direction d)) T) micros (to_one (layout_of frame))
 unfolding verdict layout_in

@@ -9,7 +9,10 @@ use Rattle.direction.specs.Dir.{other_direction}
 use Rattle.direction.specs.declared.Dir.{Dir}
 use Rattle.isotp_pdu.specs.Reading.{layout_of}
 use Rattle.isotp_receive.specs.Channels.{channel_of, to_one}
-use Rattle.isotp_receive.specs.Trace.{Entry, role, own_role, other_role}
+use Rattle.isotp_receive.specs.StandingReception.{stands}
+use Rattle.isotp_receive.specs.Trace.{Entry, role, own_role, other_role, same_direction}
+use Rattle.isotp_receive.specs.Verdict.{on_layout, verdict}
+use Rattle.isotp_receive.specs.declared.TheConstants.{MESSAGE_LIMIT}
 use Rattle.uds_exchange.specs.Meaning.{ItemValue}
 use Rattle.trace_io.specs.Counted.{BytesInMemory}
 use Rattle.trace_io.specs.Stream.{Agrees, Gave, Took}
@@ -43,6 +46,17 @@ pub role_other : (d : Dir) (line micros : ℕ) (frame : FrameValue)
     → role (channel_of (other_direction d)) (record { line = line; micros = micros; channel = channel_of d; frame = frame })
     ≡ other_role (to_one (layout_of frame))
 role_other d line micros frame = next_starts.role_other d line micros frame
+
+-- what it does
+pub verdict_of_side : (d : Dir) (T : List Entry) (line micros : ℕ) (frame : FrameValue)
+    → verdict MESSAGE_LIMIT T (record { line = line; micros = micros; channel = channel_of d; frame = frame })
+    ≡ on_layout MESSAGE_LIMIT d (stands MESSAGE_LIMIT (channel_of d) T) (stands MESSAGE_LIMIT (channel_of (other_direction d)) T) micros
+    (to_one (layout_of frame))
+verdict_of_side d T line micros frame = next_starts.verdict_of d T line micros frame
+
+-- a side is itself
+pub same_side : (d : Dir) → same_direction d d ≡ true
+same_side d = next_starts.same-side d
 
 -- a log whose meaning has an item needs memory to be collected
 pub collects_where_items : (limit : ℕ) (settings : Settings) (log : List ℕ) (items : List ItemValue)

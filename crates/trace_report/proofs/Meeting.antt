@@ -4,6 +4,7 @@ use Rattle.std.specs.Prelude.{if◌then◌else◌, ◌&&◌, not}
 use Rattle.std.proofs.lemmas.Bool.{cases_Bool}
 use Rattle.direction.specs.Dir.{Message}
 use Rattle.direction.specs.declared.Dir.{Dir}
+use Rattle.isotp_receive.specs.Channels.{dir_of}
 use Rattle.isotp_receive.specs.declared.TheConstants.{MESSAGE_LIMIT}
 use Rattle.isotp_receive.specs.StandingReception.{stands}
 use Rattle.isotp_receive.specs.Trace.{Entry, role}
@@ -117,7 +118,7 @@ module _ (rules : List RuleValue) (T : List Entry) (e : Entry) where
     met_none follower known =
         let M = messages_under rules MESSAGE_LIMIT T in
         let asks_not : completes_request MESSAGE_LIMIT rules T e ≡ false =
-        asks_none e.dir (verdict MESSAGE_LIMIT T e).verdict (tells_no_message rules T e seen is none) in
+        asks_none (dir_of e.channel) (verdict MESSAGE_LIMIT T e).verdict (tells_no_message rules T e seen is none) in
         let asked_then : asked_in MESSAGE_LIMIT rules (T ++ e ∷ []) ≡ asked_in MESSAGE_LIMIT rules T =
         asked_next MESSAGE_LIMIT rules T e ∙ ap (λ (b : Bool). if b then e.micros else asked_in MESSAGE_LIMIT rules T) asks_not in
         subst (λ (l : List Message). KnowsMessages l (asked_in MESSAGE_LIMIT rules (T ++ e ∷ [])) follower)
@@ -129,24 +130,24 @@ module _ (rules : List RuleValue) (T : List Entry) (e : Entry) where
   none_left d None none = refl
   none_left d (Some bytes) none = cc none
 
-  rows_by : (d : Dir) (here : FramePlace) (linked : Bool) (did : VerdictValue) → under rules (told_message e.dir did) ≡ []
-      → here ≡ place_of e → e.dir ≡ d → dropped_by here d linked did ≡ verdict_rows MESSAGE_LIMIT rules T e linked did
-  rows_by d here linked (message bytes) none here_is dir_is = none_left e.dir (made_of rules bytes) none
+  rows_by : (d : Dir) (here : FramePlace) (linked : Bool) (did : VerdictValue) → under rules (told_message (dir_of e.channel) did) ≡ []
+      → here ≡ place_of e → dir_of e.channel ≡ d → dropped_by here d linked did ≡ verdict_rows MESSAGE_LIMIT rules T e linked did
+  rows_by d here linked (message bytes) none here_is dir_is = none_left (dir_of e.channel) (made_of rules bytes) none
   rows_by d here linked began none here_is dir_is = refl
   rows_by d here linked stored none here_is dir_is = refl
   rows_by d here linked flowed none here_is dir_is = refl
   rows_by d here linked (dropped reason) none here_is dir_is = (λ i. row.dropped (here_is i) (sym dir_is i) linked reason ∷ [])
 
   pub rows_none : (seen : Seen) (here : FramePlace) (ended drop : List RowValue) → IsSeen rules T e seen → seen.message ≡ None
-      → here ≡ place_of e → ended ≡ ended_rows e seen.event.ended → drop ≡ dropped_rows here seen.dir (seen_event seen.event)
+      → here ≡ place_of e → ended ≡ ended_rows e seen.event.ended → drop ≡ dropped_rows here (dir_of seen.channel) (seen_event seen.event)
       → (ended ++ []) ++ drop ≡ frame_rows MESSAGE_LIMIT rules T e
   rows_none seen here ended drop is none here_is ended_is drop_is =
       let did = is.event.did in
-      let told : under rules (told_message e.dir (seen_event seen.event).verdict) ≡ [] =
-      ap (λ (x : EventValue). under rules (told_message e.dir x.verdict)) did ∙ tells_no_message rules T e seen is none in
+      let told : under rules (told_message (dir_of e.channel) (seen_event seen.event).verdict) ≡ [] =
+      ap (λ (x : EventValue). under rules (told_message (dir_of e.channel) x.verdict)) did ∙ tells_no_message rules T e seen is none in
       ap (λ l. l ++ drop) (append-nil ended)
       ∙ (λ i. ended_is i
-      ++ (drop_is ∙ rows_by seen.dir here (ends_nothing seen.event.ended) (seen_event seen.event).verdict told here_is is.event.dir) i)
+      ++ (drop_is ∙ rows_by (dir_of seen.channel) here (ends_nothing seen.event.ended) (seen_event seen.event).verdict told here_is (ap dir_of is.event.channel)) i)
       ∙ ap (λ x. event_rows MESSAGE_LIMIT rules T e x) did
 
 -- the rows of what a frame ended, then of the item that its message closes, and then of the message
@@ -157,7 +158,7 @@ rows_of_message ended closing row = append_assoc ended closing (row ∷ [])
 pub message_event : (rules : List RuleValue) (T : List Entry) (e : Entry) (event : EventValue) (judged : Judged) (asked : ℕ)
     (here : FramePlace) (extent : MessageExtent) → event ≡ verdict MESSAGE_LIMIT T e → CompletesJudged rules T e judged
     → asked ≡ asked_in MESSAGE_LIMIT rules T → here ≡ place_of e
-    → extent.first ≡ place_of (first_frame T e) → extent.frames ≡ frames_by (stands MESSAGE_LIMIT e.dir T) (role e.dir e)
+    → extent.first ≡ place_of (first_frame T e) → extent.frames ≡ frames_by (stands MESSAGE_LIMIT e.channel T) (role e.channel e)
     → ended_rows e event.ended
     ++ (closing_before (messages_under rules MESSAGE_LIMIT T) (step_after (messages_under rules MESSAGE_LIMIT T) (sent judged))
     ++ tells_message (role_of_step asked (step_after (messages_under rules MESSAGE_LIMIT T) (sent judged)) judged.dir judged.bytes.now)

@@ -7,6 +7,7 @@ use Rattle.can_log.proofs.Promises.{AllByRecursion-append, AllByRecursion-weaker
 use Rattle.direction.specs.Dir.{Message}
 use Rattle.direction.specs.declared.Dir.{Dir}
 use Rattle.direction.specs.declared.Dir.TheVariants as dir
+use Rattle.isotp_receive.specs.Channels.{dir_of}
 use Rattle.isotp_receive.specs.declared.TheConstants.{MESSAGE_LIMIT}
 use Rattle.isotp_receive.specs.declared.event.Ended.{Ended}
 use Rattle.isotp_receive.specs.StandingReception.{StandingReception, receptions_after}
@@ -138,20 +139,20 @@ module _ (rules : List RuleValue) (T : List Entry) (e : Entry) where
   abbrev M : List Message
   M = messages_under rules MESSAGE_LIMIT T
 
-  sent-tells : (bytes : List ℕ) → AllByRecursion (Tells (M ++ (e.dir, bytes) ∷ [])) (message_rows MESSAGE_LIMIT rules T e bytes (step_after M (e.dir, bytes)))
+  sent-tells : (bytes : List ℕ) → AllByRecursion (Tells (M ++ (dir_of e.channel, bytes) ∷ [])) (message_rows MESSAGE_LIMIT rules T e bytes (step_after M (dir_of e.channel, bytes)))
   sent-tells bytes =
-      let x : Message = (e.dir, bytes) in
+      let x : Message = (dir_of e.channel, bytes) in
       let step = step_after M x in
       let has = number_is_its_place M x in
       AllByRecursion-append (Tells (M ++ x ∷ [])) (closing_before M step) _ (before-tells M x step refl)
-      ((has.0, has.1, has.2, has.3, part-by (asked_in MESSAGE_LIMIT rules T) step e.dir bytes has.1 has.4), tt)
+      ((has.0, has.1, has.2, has.3, part-by (asked_in MESSAGE_LIMIT rules T) step (dir_of e.channel) bytes has.1 has.4), tt)
 
   left-tells : (made : Option (List ℕ))
-      → AllByRecursion (Tells (M ++ (sent_as e.dir made ++ []))) (left_rows MESSAGE_LIMIT rules T e made)
+      → AllByRecursion (Tells (M ++ (sent_as (dir_of e.channel) made ++ []))) (left_rows MESSAGE_LIMIT rules T e made)
   left-tells None = tt
   left-tells (Some bytes) = sent-tells bytes
 
-  verdict-tells : (linked : Bool) (did : VerdictValue) → AllByRecursion (Tells (M ++ under rules (told_message e.dir did))) (verdict_rows MESSAGE_LIMIT rules T e linked did)
+  verdict-tells : (linked : Bool) (did : VerdictValue) → AllByRecursion (Tells (M ++ under rules (told_message (dir_of e.channel) did))) (verdict_rows MESSAGE_LIMIT rules T e linked did)
   verdict-tells linked (message bytes) = left-tells (made_of rules bytes)
   verdict-tells linked began = tt
   verdict-tells linked stored = tt
@@ -163,12 +164,12 @@ module _ (rules : List RuleValue) (T : List Entry) (e : Entry) where
   ended-tells M (Some end) = (tt, tt)
 
   rows-left : (rows : List RowValue) (made : Option (List ℕ)) → AllByRecursion (Tells M) rows
-      → AllByRecursion (Tells (M ++ (sent_as e.dir made ++ []))) rows
+      → AllByRecursion (Tells (M ++ (sent_as (dir_of e.channel) made ++ []))) rows
   rows-left rows None tell = subst (λ l. AllByRecursion (Tells l) rows) (sym (append-nil M)) tell
   rows-left rows (Some bytes) tell =
-      AllByRecursion-weaker (Tells M) (Tells (M ++ (e.dir, bytes) ∷ [])) (row-still M (e.dir, bytes)) rows tell
+      AllByRecursion-weaker (Tells M) (Tells (M ++ (dir_of e.channel, bytes) ∷ [])) (row-still M (dir_of e.channel, bytes)) rows tell
 
-  rows-still : (rows : List RowValue) (did : VerdictValue) → AllByRecursion (Tells M) rows → AllByRecursion (Tells (M ++ under rules (told_message e.dir did))) rows
+  rows-still : (rows : List RowValue) (did : VerdictValue) → AllByRecursion (Tells M) rows → AllByRecursion (Tells (M ++ under rules (told_message (dir_of e.channel) did))) rows
   rows-still rows (message bytes) tell = rows-left rows (made_of rules bytes) tell
   rows-still rows began tell = subst (λ l. AllByRecursion (Tells l) rows) (sym (append-nil M)) tell
   rows-still rows stored tell = subst (λ l. AllByRecursion (Tells l) rows) (sym (append-nil M)) tell
@@ -178,12 +179,12 @@ module _ (rules : List RuleValue) (T : List Entry) (e : Entry) where
   frame-tells : AllByRecursion (Tells M) (rows_of MESSAGE_LIMIT rules T) → AllByRecursion (Tells (messages_under rules MESSAGE_LIMIT (T ++ e ∷ []))) (rows_of MESSAGE_LIMIT rules (T ++ e ∷ []))
   frame-tells tell =
       let event = verdict MESSAGE_LIMIT T e in
-      let then = M ++ under rules (told_message e.dir event.verdict) in
+      let then = M ++ under rules (told_message (dir_of e.channel) event.verdict) in
       let ended = ended_rows e event.ended in
       let did = verdict_rows MESSAGE_LIMIT rules T e (ends_nothing event.ended) event.verdict in
       let new = AllByRecursion-append (Tells then) ended did (ended-tells then event.ended) (verdict-tells (ends_nothing event.ended) event.verdict) in
       let all = AllByRecursion-append (Tells then) (rows_of MESSAGE_LIMIT rules T) (ended ++ did) (rows-still (rows_of MESSAGE_LIMIT rules T) event.verdict tell) new in
-      subst (λ l. AllByRecursion (Tells l) (rows_of MESSAGE_LIMIT rules (T ++ e ∷ []))) (sym (messages_next rules T e e.dir event refl refl))
+      subst (λ l. AllByRecursion (Tells l) (rows_of MESSAGE_LIMIT rules (T ++ e ∷ []))) (sym (messages_next rules T e e.channel event refl refl))
       (subst (AllByRecursion (Tells then)) (sym (rows_next MESSAGE_LIMIT rules T e)) all)
 
 -- All frames, and the end.

@@ -4,6 +4,7 @@ use Rattle.std.proofs.lemmas.Bool.{cases_Bool}
 use Rattle.direction.specs.Dir.{Message}
 use Rattle.direction.specs.declared.Dir.{Dir}
 use Rattle.direction.specs.declared.Dir.TheVariants as dir
+use Rattle.isotp_receive.specs.Channels.{dir_of}
 use Rattle.isotp_receive.specs.declared.TheConstants.{MESSAGE_LIMIT}
 use Rattle.isotp_receive.specs.declared.event.Ended.{Ended}
 use Rattle.isotp_receive.specs.StandingReception.{StandingReception, receptions_after}
@@ -70,14 +71,14 @@ module _ (rules : List RuleValue) (T : List Entry) (e : Entry) where
 
   -- the row of a message, by what becomes of it
   abbrev sent : List ℕ → Step → RowValue
-  sent bytes step = row.message (role_of_step (asked_in MESSAGE_LIMIT rules T) step e.dir bytes) e.dir (message_place MESSAGE_LIMIT rules T e bytes) bytes
+  sent bytes step = row.message (role_of_step (asked_in MESSAGE_LIMIT rules T) step (dir_of e.channel) bytes) (dir_of e.channel) (message_place MESSAGE_LIMIT rules T e bytes) bytes
 
   -- an answer is one to a request that waits
   answers-one : (waits : Option (List ℕ)) (x : Message) → step_of (option_map sid waits) x ≡ becomes.Answer → (request : List ℕ) × (waits ≡ Some request)
   answers-one None x is = absurd (elim (cases_Bool (is_tester_request x)) [ inl asks ↦ cc | inr asks ↦ cc ])
   answers-one (Some request) x is = (request, refl)
 
-  placed-answer : (lines sides : ℕ) (rows : List RowValue) (bytes : List ℕ) → ArePlaced count lines sides rows → step_after M (e.dir, bytes) ≡ becomes.Answer
+  placed-answer : (lines sides : ℕ) (rows : List RowValue) (bytes : List ℕ) → ArePlaced count lines sides rows → step_after M (dir_of e.channel, bytes) ≡ becomes.Answer
       → ArePlaced count lines sides (rows ++ sent bytes becomes.Answer ∷ [])
   placed-answer lines sides rows bytes are is =
       elim (cases_Bool (is_negative_response bytes)) [
@@ -85,34 +86,34 @@ module _ (rules : List RuleValue) (T : List Entry) (e : Entry) where
         | inr positive ↦ placed-quiet count lines sides rows (sent bytes becomes.Answer) are (rw positive refl) (rw positive tt)
       ]
     where
-      among : IsAmong (of_item (number_after M (e.dir, bytes))) (targets_in rows)
+      among : IsAmong (of_item (number_after M (dir_of e.channel, bytes))) (targets_in rows)
       among =
-          let asked = answers-one (open_request M) (e.dir, bytes) is in
+          let asked = answers-one (open_request M) (dir_of e.channel, bytes) is in
           subst (λ step. IsAmong (of_item (number_by step M)) (targets_in rows)) (sym is) (waiting-leads M lines sides rows are asked.0 asked.1)
 
   -- a message that begins an item
   placed-begin : (lines sides : ℕ) (rows : List RowValue) (bytes : List ℕ) (step : Step) → ArePlaced count lines sides rows
-      → number_after M (e.dir, bytes) ≡ count + 1 → target_at (sent bytes step) ≡ Some (of_item (number_after M (e.dir, bytes)))
-      → ((places : List LinkTarget) → IsAmong (of_item (number_after M (e.dir, bytes))) places → Leads places (sent bytes step))
+      → number_after M (dir_of e.channel, bytes) ≡ count + 1 → target_at (sent bytes step) ≡ Some (of_item (number_after M (dir_of e.channel, bytes)))
+      → ((places : List LinkTarget) → IsAmong (of_item (number_after M (dir_of e.channel, bytes))) places → Leads places (sent bytes step))
       → ArePlaced (count + 1) lines sides (rows ++ sent bytes step ∷ [])
   placed-begin lines sides rows bytes step are next is leads =
       placed-item count lines sides rows (sent bytes step) are (is ∙ ap (λ n. Some (of_item n)) next)
       (leads (targets_in rows ++ of_item (count + 1) ∷ [])
       (subst (λ n. IsAmong (of_item n) (targets_in rows ++ of_item (count + 1) ∷ [])) (sym next) (among-last (of_item (count + 1)) (targets_in rows))))
 
-  other-target : (bytes : List ℕ) (step : Step) (d : Dir) → role_of_step (asked_in MESSAGE_LIMIT rules T) step e.dir bytes ≡ other_role d bytes
-      → target_at (sent bytes step) ≡ Some (of_item (number_after M (e.dir, bytes)))
+  other-target : (bytes : List ℕ) (step : Step) (d : Dir) → role_of_step (asked_in MESSAGE_LIMIT rules T) step (dir_of e.channel) bytes ≡ other_role d bytes
+      → target_at (sent bytes step) ≡ Some (of_item (number_after M (dir_of e.channel, bytes)))
   other-target bytes step dir.Unit is = rw is refl
   other-target bytes step dir.Tester is =
       elim (cases_Bool (is_keep_alive bytes)) [ inl e ↦ rw (is, e) refl | inr e ↦ rw (is, e) refl ]
 
-  other-leads : (bytes : List ℕ) (step : Step) (d : Dir) → role_of_step (asked_in MESSAGE_LIMIT rules T) step e.dir bytes ≡ other_role d bytes
-      → (places : List LinkTarget) → IsAmong (of_item (number_after M (e.dir, bytes))) places → Leads places (sent bytes step)
+  other-leads : (bytes : List ℕ) (step : Step) (d : Dir) → role_of_step (asked_in MESSAGE_LIMIT rules T) step (dir_of e.channel) bytes ≡ other_role d bytes
+      → (places : List LinkTarget) → IsAmong (of_item (number_after M (dir_of e.channel, bytes))) places → Leads places (sent bytes step)
   other-leads bytes step dir.Unit is places among = rw is among
   other-leads bytes step dir.Tester is places among =
       elim (cases_Bool (is_keep_alive bytes)) [ inl e ↦ rw (is, e) tt | inr e ↦ rw (is, e) among ]
 
-  placed-step : (lines sides : ℕ) (rows : List RowValue) (bytes : List ℕ) (step : Step) → step_after M (e.dir, bytes) ≡ step → ArePlaced count lines sides rows
+  placed-step : (lines sides : ℕ) (rows : List RowValue) (bytes : List ℕ) (step : Step) → step_after M (dir_of e.channel, bytes) ≡ step → ArePlaced count lines sides rows
       → ArePlaced (item_count_after_step step count) lines sides ((rows ++ closing_before M step) ++ sent bytes step ∷ [])
   placed-step lines sides rows bytes (becomes.Request service) is are =
       placed-begin lines sides (rows ++ closing_rows M) bytes (becomes.Request service) (waiting-placed M lines sides rows are) (ap (λ step. number_by step M) is) refl (λ places among. tt)
@@ -122,29 +123,29 @@ module _ (rules : List RuleValue) (T : List Entry) (e : Entry) where
       subst (λ l. ArePlaced count lines sides (l ++ sent bytes becomes.Removed ∷ [])) (sym (append-nil rows)) (placed-quiet count lines sides rows (sent bytes becomes.Removed) are refl tt)
   placed-step lines sides rows bytes becomes.Hold is are =
       subst (λ l. ArePlaced (count + 1) lines sides (l ++ sent bytes becomes.Hold ∷ [])) (sym (append-nil rows))
-      (placed-begin lines sides rows bytes becomes.Hold are (ap (λ step. number_by step M) is) (other-target bytes becomes.Hold e.dir refl) (other-leads bytes becomes.Hold e.dir refl))
+      (placed-begin lines sides rows bytes becomes.Hold are (ap (λ step. number_by step M) is) (other-target bytes becomes.Hold (dir_of e.channel) refl) (other-leads bytes becomes.Hold (dir_of e.channel) refl))
   placed-step lines sides rows bytes becomes.Pass is are =
       subst (λ l. ArePlaced (count + 1) lines sides (l ++ sent bytes becomes.Pass ∷ [])) (sym (append-nil rows))
-      (placed-begin lines sides rows bytes becomes.Pass are (ap (λ step. number_by step M) is) (other-target bytes becomes.Pass e.dir refl) (other-leads bytes becomes.Pass e.dir refl))
+      (placed-begin lines sides rows bytes becomes.Pass are (ap (λ step. number_by step M) is) (other-target bytes becomes.Pass (dir_of e.channel) refl) (other-leads bytes becomes.Pass (dir_of e.channel) refl))
 
   -- The rows of a frame, which stands behind these lines.
 
   -- all messages with those of this frame
   abbrev count_with : VerdictValue → ℕ
-  count_with did = length (meaning (M ++ under rules (told_message e.dir did)))
+  count_with did = length (meaning (M ++ under rules (told_message (dir_of e.channel) did)))
 
-  count-still : (did : VerdictValue) → told_message e.dir did ≡ [] → count ≡ count_with did
+  count-still : (did : VerdictValue) → told_message (dir_of e.channel) did ≡ [] → count ≡ count_with did
   count-still did none = ap (λ l. length (meaning l)) (sym (append-nil M) ∙ ap (λ l. M ++ under rules l) (sym none))
 
   -- the rows of what rules left of its message
   placed-left : (lines sides : ℕ) (rows : List RowValue) (made : Option (List ℕ)) → ArePlaced count lines sides rows
-      → ArePlaced (length (meaning (M ++ (sent_as e.dir made ++ [])))) lines sides (rows ++ left_rows MESSAGE_LIMIT rules T e made)
+      → ArePlaced (length (meaning (M ++ (sent_as (dir_of e.channel) made ++ [])))) lines sides (rows ++ left_rows MESSAGE_LIMIT rules T e made)
   placed-left lines sides rows None are =
       subst (λ l. ArePlaced (length (meaning l)) lines sides (rows ++ [])) (sym (append-nil M))
       (subst (ArePlaced count lines sides) (sym (append-nil rows)) are)
   placed-left lines sides rows (Some bytes) are =
-      let step = step_after M (e.dir, bytes) in
-      subst (λ n. ArePlaced n lines sides (rows ++ (closing_before M step ++ sent bytes step ∷ []))) (sym (items_grow M (e.dir, bytes)))
+      let step = step_after M (dir_of e.channel, bytes) in
+      subst (λ n. ArePlaced n lines sides (rows ++ (closing_before M step ++ sent bytes step ∷ []))) (sym (items_grow M (dir_of e.channel, bytes)))
       (subst (ArePlaced (item_count_after_step step count) lines sides) (append_assoc rows (closing_before M step) (sent bytes step ∷ []))
       (placed-step lines sides rows bytes step refl are))
 
@@ -156,8 +157,8 @@ module _ (rules : List RuleValue) (T : List Entry) (e : Entry) where
   placed-unlinked rows stored are among = subst (λ n. ArePlaced n (e.line + 1) 0 (rows ++ [])) (count-still stored refl) (subst (ArePlaced count (e.line + 1) 0) (sym (append-nil rows)) are)
   placed-unlinked rows flowed are among = subst (λ n. ArePlaced n (e.line + 1) 0 (rows ++ [])) (count-still flowed refl) (subst (ArePlaced count (e.line + 1) 0) (sym (append-nil rows)) are)
   placed-unlinked rows (dropped reason) are among =
-      subst (λ n. ArePlaced n (e.line + 1) 0 (rows ++ row.dropped (place_of e) e.dir false reason ∷ [])) (count-still (dropped reason) refl)
-      (placed-quiet count (e.line + 1) 0 rows (row.dropped (place_of e) e.dir false reason) are refl among)
+      subst (λ n. ArePlaced n (e.line + 1) 0 (rows ++ row.dropped (place_of e) (dir_of e.channel) false reason ∷ [])) (count-still (dropped reason) refl)
+      (placed-quiet count (e.line + 1) 0 rows (row.dropped (place_of e) (dir_of e.channel) false reason) are refl among)
 
   -- and where it ended nothing
   placed-linked : (lines : ℕ) (rows : List RowValue) (did : VerdictValue) → ArePlaced count lines 0 rows → lines ≤ e.line
@@ -176,8 +177,8 @@ module _ (rules : List RuleValue) (T : List Entry) (e : Entry) where
       by stored = subst (λ n. ArePlaced n (e.line + 1) 0 (rows ++ [])) (count-still stored refl) still
       by flowed = subst (λ n. ArePlaced n (e.line + 1) 0 (rows ++ [])) (count-still flowed refl) still
       by (dropped reason) =
-          subst (λ n. ArePlaced n (e.line + 1) 0 (rows ++ row.dropped (place_of e) e.dir true reason ∷ [])) (count-still (dropped reason) refl)
-          (placed-line count lines 0 e.line rows (row.dropped (place_of e) e.dir true reason) are refl late (among-last (of_line e.line) (targets_in rows)))
+          subst (λ n. ArePlaced n (e.line + 1) 0 (rows ++ row.dropped (place_of e) (dir_of e.channel) true reason ∷ [])) (count-still (dropped reason) refl)
+          (placed-line count lines 0 e.line rows (row.dropped (place_of e) (dir_of e.channel) true reason) are refl late (among-last (of_line e.line) (targets_in rows)))
 
   placed-event : (lines : ℕ) (rows : List RowValue) (ended : Option Ended) (did : VerdictValue) → ArePlaced count lines 0 rows → lines ≤ e.line
       → ArePlaced (count_with did) (e.line + 1) 0 (rows ++ (ended_rows e ended ++ verdict_rows MESSAGE_LIMIT rules T e (ends_nothing ended) did))
@@ -196,7 +197,7 @@ module _ (rules : List RuleValue) (T : List Entry) (e : Entry) where
       let event = verdict MESSAGE_LIMIT T e in
       subst (ArePlaced (length (meaning (messages_under rules MESSAGE_LIMIT (T ++ e ∷ [])))) (e.line + 1) 0) (sym (rows_next MESSAGE_LIMIT rules T e))
       (subst (λ N. ArePlaced (length (meaning N)) (e.line + 1) 0 (rows_of MESSAGE_LIMIT rules T ++ (ended_rows e event.ended ++ verdict_rows MESSAGE_LIMIT rules T e (ends_nothing event.ended) event.verdict)))
-      (sym (messages_next rules T e e.dir event refl refl)) (placed-event lines (rows_of MESSAGE_LIMIT rules T) event.ended event.verdict are late))
+      (sym (messages_next rules T e e.channel event refl refl)) (placed-event lines (rows_of MESSAGE_LIMIT rules T) event.ended event.verdict are late))
 
 -- All frames.
 

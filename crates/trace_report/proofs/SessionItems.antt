@@ -5,6 +5,7 @@ use Rattle.std.proofs.lemmas.List.{map-append}
 use Rattle.direction.specs.Dir.{Message}
 use Rattle.direction.specs.declared.Dir.{Dir}
 use Rattle.direction.specs.declared.Dir.TheVariants as dir
+use Rattle.isotp_receive.specs.Channels.{dir_of}
 use Rattle.isotp_receive.specs.declared.TheConstants.{MESSAGE_LIMIT}
 use Rattle.isotp_receive.specs.declared.event.Ended.{Ended}
 use Rattle.isotp_receive.specs.StandingReception.{StandingReception, receptions_after}
@@ -84,31 +85,31 @@ module _ (rules : List RuleValue) (T : List Entry) (e : Entry) where
 
   -- a message, behind rows that tell what the messages before mean
   with-message : (ks : List RowKind) (bytes : List ℕ) → values_of ks ≡ meaning M
-      → values_of (ks ++ kind_of_step (step_after M (e.dir, bytes)) (e.dir, bytes) ∷ []) ≡ meaning (M ++ (e.dir, bytes) ∷ [])
+      → values_of (ks ++ kind_of_step (step_after M (dir_of e.channel, bytes)) (dir_of e.channel, bytes) ∷ []) ≡ meaning (M ++ (dir_of e.channel, bytes) ∷ [])
   with-message ks bytes so =
-      let x : Message = (e.dir, bytes) in
+      let x : Message = (dir_of e.channel, bytes) in
       ap (λ step. values_of (ks ++ kind_of_step step x ∷ [])) (sym (step_by_items M x) ∙ ap (λ items. step_of (open_sid_in items) x) (sym so))
       ∙ joined ks x ∙ ap (λ items. items_with items x) so ∙ sym (meaning_goes_on M x)
 
-  with-message-rows : (ks : List RowKind) (bytes : List ℕ) (step : Step) → step ≡ step_after M (e.dir, bytes) → values_of ks ≡ meaning M
-      → values_of (ks ++ map kind (closing_before M step ++ row.message (role_of_step (asked_in MESSAGE_LIMIT rules T) step e.dir bytes) e.dir (message_place MESSAGE_LIMIT rules T e bytes) bytes ∷ []))
-      ≡ meaning (M ++ (e.dir, bytes) ∷ [])
+  with-message-rows : (ks : List RowKind) (bytes : List ℕ) (step : Step) → step ≡ step_after M (dir_of e.channel, bytes) → values_of ks ≡ meaning M
+      → values_of (ks ++ map kind (closing_before M step ++ row.message (role_of_step (asked_in MESSAGE_LIMIT rules T) step (dir_of e.channel) bytes) (dir_of e.channel) (message_place MESSAGE_LIMIT rules T e bytes) bytes ∷ []))
+      ≡ meaning (M ++ (dir_of e.channel, bytes) ∷ [])
   with-message-rows ks bytes step is so =
-      let sent = row.message (role_of_step (asked_in MESSAGE_LIMIT rules T) step e.dir bytes) e.dir (message_place MESSAGE_LIMIT rules T e bytes) bytes in
+      let sent = row.message (role_of_step (asked_in MESSAGE_LIMIT rules T) step (dir_of e.channel) bytes) (dir_of e.channel) (message_place MESSAGE_LIMIT rules T e bytes) bytes in
       let before = map kind (closing_before M step) in
       ap (λ l. values_of (ks ++ l)) (map-append kind (closing_before M step) (sent ∷ []))
       ∙ ap values_of (sym (append_assoc ks before (kind sent ∷ [])))
-      ∙ ap (λ k. values_of ((ks ++ before) ++ k ∷ [])) (kind-of-message (asked_in MESSAGE_LIMIT rules T) step e.dir (message_place MESSAGE_LIMIT rules T e bytes) bytes
-      ∙ ap (λ s. kind_of_step s (e.dir, bytes)) is)
+      ∙ ap (λ k. values_of ((ks ++ before) ++ k ∷ [])) (kind-of-message (asked_in MESSAGE_LIMIT rules T) step (dir_of e.channel) (message_place MESSAGE_LIMIT rules T e bytes) bytes
+      ∙ ap (λ s. kind_of_step s (dir_of e.channel, bytes)) is)
       ∙ with-message (ks ++ before) bytes (no-more ks before (before-quiet M step) ∙ so)
 
   with-left : (ks : List RowKind) (made : Option (List ℕ)) → values_of ks ≡ meaning M
-      → values_of (ks ++ map kind (left_rows MESSAGE_LIMIT rules T e made)) ≡ meaning (M ++ (sent_as e.dir made ++ []))
+      → values_of (ks ++ map kind (left_rows MESSAGE_LIMIT rules T e made)) ≡ meaning (M ++ (sent_as (dir_of e.channel) made ++ []))
   with-left ks None so = ap values_of (append-nil ks) ∙ so ∙ ap meaning (sym (append-nil M))
-  with-left ks (Some bytes) so = with-message-rows ks bytes (step_after M (e.dir, bytes)) refl so
+  with-left ks (Some bytes) so = with-message-rows ks bytes (step_after M (dir_of e.channel, bytes)) refl so
 
   with-verdict : (ks : List RowKind) (linked : Bool) (did : VerdictValue) → values_of ks ≡ meaning M
-      → values_of (ks ++ map kind (verdict_rows MESSAGE_LIMIT rules T e linked did)) ≡ meaning (M ++ under rules (told_message e.dir did))
+      → values_of (ks ++ map kind (verdict_rows MESSAGE_LIMIT rules T e linked did)) ≡ meaning (M ++ under rules (told_message (dir_of e.channel) did))
   with-verdict ks linked (message bytes) so = with-left ks (made_of rules bytes) so
   with-verdict ks linked began so = ap values_of (append-nil ks) ∙ so ∙ ap meaning (sym (append-nil M))
   with-verdict ks linked stored so = ap values_of (append-nil ks) ∙ so ∙ ap meaning (sym (append-nil M))
@@ -127,7 +128,7 @@ module _ (rules : List RuleValue) (T : List Entry) (e : Entry) where
       ∙ ap (λ l. values_of (ks ++ l)) (map-append kind ended did)
       ∙ ap values_of (sym (append_assoc ks (map kind ended) (map kind did)))
       ∙ with-verdict (ks ++ map kind ended) (ends_nothing event.ended) event.verdict (no-more ks (map kind ended) (ended-quiet e event.ended) ∙ so)
-      ∙ ap meaning (sym (messages_next rules T e e.dir event refl refl))
+      ∙ ap meaning (sym (messages_next rules T e e.channel event refl refl))
 
 -- All frames.
 

@@ -3,6 +3,7 @@ use Rattle.std.proofs.Common.{◌≡◌, ◌≤◌, ◌*◌, ℕ, Bool, List, []
 use Rattle.std.proofs.lemmas.List.{length-append}
 use Rattle.std.specs.Prelude.{if◌then◌else◌}
 use Rattle.direction.specs.Dir.{Message}
+use Rattle.isotp_receive.specs.Channels.{dir_of}
 use Rattle.isotp_receive.specs.declared.event.Ended.{Ended}
 use Rattle.isotp_receive.specs.Trace.{Entry}
 use Rattle.isotp_receive.specs.Verdict.{VerdictValue, message, began, stored, flowed, dropped, verdict}
@@ -80,9 +81,9 @@ few_left : (limit : ℕ) (rules : List RuleValue) (T : List Entry) (e : Entry) (
 few_left limit rules T e None = omega arith
 few_left limit rules T e (Some bytes) =
     let M = messages_under rules limit T in
-    let step = step_after M (e.dir, bytes) in
+    let step = step_after M (dir_of e.channel, bytes) in
     let one = few_before M step in
-    let row = row.message (role_of_step (asked_in limit rules T) step e.dir bytes) e.dir (message_place limit rules T e bytes) bytes in
+    let row = row.message (role_of_step (asked_in limit rules T) step (dir_of e.channel) bytes) (dir_of e.channel) (message_place limit rules T e bytes) bytes in
     let both = length-append (closing_before M step) (row ∷ []) in
     omega (arith, one, both)
 

@@ -3,6 +3,7 @@
 use Rattle.std.specs.Prelude.{ℕ, ◌+◌, Bool, true, false, List, [], ◌∷◌, ◌++◌, Option, Some, None, if◌then◌else◌}
 use Rattle.direction.specs.Dir.{Message}
 use Rattle.direction.specs.declared.Dir.{Dir}
+use Rattle.isotp_receive.specs.Channels.{dir_of}
 use Rattle.isotp_receive.specs.declared.event.Ended.{Ended}
 use Rattle.isotp_receive.specs.StandingReception.{StandingReception, receptions_after, stands}
 use Rattle.isotp_receive.specs.Trace.{Entry, FrameRole, single, first, consecutive, continue_or_wait, overflow, no_part, role}
@@ -32,7 +33,7 @@ is_request_step becomes.Pass = false
 -- the message that rules left of the one that the frame e completes after the frames T, if they left one, is a request
 abbrev pub is_request_left : ℕ → List RuleValue → List Entry → Entry → Option (List ℕ) → Bool
 is_request_left limit rules T e None = false
-is_request_left limit rules T e (Some bytes) = is_request_step (step_after (messages_under rules limit T) (e.dir, bytes))
+is_request_left limit rules T e (Some bytes) = is_request_step (step_after (messages_under rules limit T) (dir_of e.channel, bytes))
 
 -- the frame e completes a request under rules after the frames T, where it does this there
 abbrev pub completes_request_by : ℕ → List RuleValue → List Entry → Entry → VerdictValue → Bool
@@ -71,10 +72,10 @@ frames_by standing no_part = 1
 -- its last one, and how many carry it
 abbrev pub message_place : ℕ → List RuleValue → List Entry → Entry → List ℕ → MessagePlace
 message_place limit rules T e bytes = record {
-  item = number_after (messages_under rules limit T) (e.dir, bytes);
+  item = number_after (messages_under rules limit T) (dir_of e.channel, bytes);
   first = place_of (first_frame T e);
   last = place_of e;
-  frames = frames_by (stands limit e.dir T) (role e.dir e);
+  frames = frames_by (stands limit e.channel T) (role e.channel e);
 }
 
 -- the row that tells that the request of the open exchange has no answer, if one is open after these messages
@@ -96,13 +97,13 @@ closing_before M step = if is_request_step step then closing_rows M else []
 abbrev pub message_rows : ℕ → List RuleValue → List Entry → Entry → List ℕ → Step → List RowValue
 message_rows limit rules T e bytes step =
     closing_before (messages_under rules limit T) step
-    ++ row.message (role_of_step (asked_in limit rules T) step e.dir bytes) e.dir (message_place limit rules T e bytes) bytes ∷ []
+    ++ row.message (role_of_step (asked_in limit rules T) step (dir_of e.channel) bytes) (dir_of e.channel) (message_place limit rules T e bytes) bytes ∷ []
 
 -- the rows of the message that rules left of the one that the frame e completes after the frames T, if they left one
 abbrev pub left_rows : ℕ → List RuleValue → List Entry → Entry → Option (List ℕ) → List RowValue
 left_rows limit rules T e None = []
 left_rows limit rules T e (Some bytes) =
-    message_rows limit rules T e bytes (step_after (messages_under rules limit T) (e.dir, bytes))
+    message_rows limit rules T e bytes (step_after (messages_under rules limit T) (dir_of e.channel, bytes))
 
 -- a frame ended no reception
 abbrev pub ends_nothing : Option Ended → Bool
@@ -115,7 +116,7 @@ verdict_rows limit rules T e linked (message bytes) = left_rows limit rules T e 
 verdict_rows limit rules T e linked began = []
 verdict_rows limit rules T e linked stored = []
 verdict_rows limit rules T e linked flowed = []
-verdict_rows limit rules T e linked (dropped reason) = row.dropped (place_of e) e.dir linked reason ∷ []
+verdict_rows limit rules T e linked (dropped reason) = row.dropped (place_of e) (dir_of e.channel) linked reason ∷ []
 
 -- the row that tells which reception the frame e ended, if it ended one
 abbrev pub ended_rows : Entry → Option Ended → List RowValue

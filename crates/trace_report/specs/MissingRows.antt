@@ -67,6 +67,7 @@ reason_words reason.NextUnexpected = codes " <i>no message was under way that it
 reason_words reason.NextLate = []
 reason_words (reason.NextSequence expected found) = []
 reason_words reason.NextLength = []
+reason_words reason.FunctionalNotSingle = codes " <i>what is sent to all units is one single frame</i>"
 reason_words (reason.TooLong announced) = codes " <i>more than the limit of " ++ decimal MESSAGE_LIMIT ++ codes "</i>"
 
 -- why a reception ended, for a reader who knows no ISO 15765-2

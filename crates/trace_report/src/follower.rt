@@ -68,7 +68,7 @@ impl Follower {
             → Follows rules T self.old → rows_in result ≡ frame_rows MESSAGE_LIMIT rules T e }
     {
         let here = here_of(seen);
-        let extent = self.extents.take(here, seen.dir, seen.event);
+        let extent = self.extents.take(here, seen.channel, seen.event);
         let first = ended_row_of(here, seen.event.ended);
         match seen.message {
             Some(message) => {
@@ -82,7 +82,7 @@ impl Follower {
             None => NewRows {
                 first,
                 second: None,
-                third: dropped_row_of(here, seen.dir, seen.event),
+                third: dropped_row_of(here, seen.channel.dir(), seen.event),
             },
         }
     }

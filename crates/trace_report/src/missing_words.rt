@@ -107,6 +107,10 @@ impl Part for ReasonWords {
                 " <i>no message was under way that it goes on with</i>",
             ),
             Reason::NextLate | Reason::NextSequence { .. } | Reason::NextLength => {}
+            Reason::FunctionalNotSingle => say(
+                out,
+                " <i>what is sent to all units is one single frame</i>",
+            ),
             Reason::TooLong { .. } => say(
                 out,
                 (" <i>more than the limit of ", Length(MESSAGE_LIMIT), "</i>"),

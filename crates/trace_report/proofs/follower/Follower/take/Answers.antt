@@ -11,18 +11,18 @@ use Rattle.trace_run.specs.Seen.{IsEventOf, IsSeen}
 use Rattle.trace_run.specs.declared.machine.Seen.{Seen}
 use Rattle.trace_run.proofs.Promises.{completes_judged}
 use Rattle.trace_report.specs.Rows.{row_of}
-use Rattle.trace_report.specs.proving.Following.{KnowsExtents, row_if}
+use Rattle.trace_report.specs.proving.Following.{KnowsExtents, dropped_rows, row_if}
 use Rattle.trace_report.proofs.Meeting.{message_event, met_next, met_none, rows_none, rows_of_message}
 use Rattle.trace_report.proofs.follower.Follower.take.Goals as goal
 
 -- what the frame did there
 event_at : (rules : List RuleValue) (T : List Entry) (e : Entry) (seen : Seen) (here : FramePlace) → IsSeen rules T e seen
-    → here ≡ record { line = seen.line; micros = seen.micros } → IsEventOf T e here.line here.micros seen.dir seen.event
+    → here ≡ record { line = seen.line; micros = seen.micros } → IsEventOf T e here.line here.micros seen.channel seen.event
 event_at rules T e seen here is here_is = record {
   few = is.event.few;
   line = is.event.line ∙ ap (λ (p : FramePlace). p.line) (sym here_is);
   micros = is.event.micros ∙ ap (λ (p : FramePlace). p.micros) (sym here_is);
-  dir = is.event.dir;
+  channel = is.event.channel;
   did = is.event.did;
 }
 
@@ -79,4 +79,5 @@ returns-in-None-clause-rows c = λ rules T e seen known.
     let what = c.args.seen in
     let here = c.here_of-here.result in
     let stands = place_at rules T e what here seen c.here_of-here.ensures in
-    rows_none rules T e what here (row_if c.ended_row_of-first.result) (row_if c.dropped_row_of.result) seen c.in-None.is stands (c.ended_row_of-first.ensures e stands) c.dropped_row_of.ensures
+    rows_none rules T e what here (row_if c.ended_row_of-first.result) (row_if c.dropped_row_of.result) seen c.in-None.is stands (c.ended_row_of-first.ensures e stands)
+    (c.dropped_row_of.ensures ∙ ap (λ d. dropped_rows here d (seen_event what.event)) c.dir.ensures)
