@@ -8,7 +8,7 @@ use Rattle.asked_profile.specs.declared.choice.RunIdentifiers.{RunIdentifiers}
 
 -- the identifiers of a unit
 abbrev pub identifiers_of : UnitValue → RunIdentifiers
-identifiers_of one = record { tester = one.tester; unit = one.unit }
+identifiers_of one = record { tester = one.tester; unit = one.unit; functional = one.functional }
 
 -- those of the unit of this name
 abbrev pub named : List UnitValue → List ℕ → Result (Option RunIdentifiers) ChoiceFault

@@ -14,6 +14,8 @@ pub struct RunIdentifiers {
     pub tester: Id,
     /// That of the unit.
     pub unit: Id,
+    /// That on which the tester asks all units, if it does.
+    pub functional: Option<Id>,
 }
 
 /// Why no unit is chosen.
@@ -74,5 +76,6 @@ fn identifiers_of(one: &ControlUnit) -> RunIdentifiers
     RunIdentifiers {
         tester: one.tester,
         unit: one.unit,
+        functional: one.functional,
     }
 }

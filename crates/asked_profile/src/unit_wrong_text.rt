@@ -35,6 +35,9 @@ impl<'a> Part for UnitWrongText<'a> {
             }
             UnitWrong::Missing(key) => say(out, (unit_key_text(key), ": missing")),
             UnitWrong::SameIdentifier => say(out, "tester and unit have the same identifier"),
+            UnitWrong::SameFunctional => {
+                say(out, "functional identifier is that of tester or unit")
+            }
             UnitWrong::SameName(place) => say(out, ("name: that of unit ", UnitNumber(place))),
             UnitWrong::SamePair(place) => {
                 say(out, ("tester and unit: those of unit ", UnitNumber(place)))
@@ -77,5 +80,6 @@ fn unit_key_text(key: UnitKey) -> &'static str
         UnitKey::Name => "name",
         UnitKey::Tester => "tester",
         UnitKey::Unit => "unit",
+        UnitKey::Functional => "functional",
     }
 }

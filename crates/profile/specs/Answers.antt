@@ -26,11 +26,11 @@ seen_rules (Err wrong) = Err (wrong_value wrong)
 
 -- a unit by bytes
 abbrev pub unit_value : ControlUnit → UnitValue
-unit_value one = record { name = string_bytes one.name; tester = one.tester; unit = one.unit }
+unit_value one = record { name = string_bytes one.name; tester = one.tester; unit = one.unit; functional = one.functional }
 
 -- the parts of a unit, or what is wrong with it by itself
 abbrev pub seen_unit : Result UnitParts UnitWrong → Result UnitValue UnitWrongValue
-seen_unit (Ok parts) = Ok (record { name = parts.name.now; tester = parts.tester; unit = parts.unit })
+seen_unit (Ok parts) = Ok (record { name = parts.name.now; tester = parts.tester; unit = parts.unit; functional = parts.functional })
 seen_unit (Err wrong) = Err (unit_wrong_value wrong)
 
 -- units to which one was added, or what is wrong

@@ -2,6 +2,7 @@
 use Rattle.std.specs.Prelude.{◌≡◌, ◌≢◌, ℕ, ◌≤◌, true, List, [], ◌∷◌, ◌++◌, codes, length, map, Option, Some, None, Ok}
 use Rattle.std.specs.List.{AllByRecursion}
 use Rattle.std.specs.Result.{result_ok}
+use Rattle.can_log.specs.declared.frame.Id.{Id}
 use Rattle.toml.specs.Data.{Items, no_items, item, Members, as_str}
 use Rattle.uds_rules.specs.Rule.{RuleValue}
 use Rattle.uds_rules.specs.Legal.{AreRules}
@@ -13,13 +14,19 @@ use Rattle.profile.specs.Units.{UnitValue}
 use Rattle.profile.specs.declared.wrong.RuleKey.{RuleKey}
 use Rattle.profile.specs.declared.wrong.RuleKey.TheVariants as rule_key
 
+-- a bus carries the identifier of functional requests, if there is one, and it is neither of these two
+abbrev pub IsApart : Id → Id → Option Id → Type 0
+IsApart tester unit None = Unit {0}
+IsApart tester unit (Some functional) = (is_of_bus functional ≡ true) × (functional ≢ tester) × (functional ≢ unit)
+
 -- A unit by itself: its name has 1 to 32 letters, digits, `-` and `_`, a bus carries the identifiers of its tester and of
--- its own, and these are two.
+-- its own, and these are two; and so is that of functional requests, if it has one, and is apart from both.
 pub record IsUnit (one : UnitValue) : Type 0 where
   pub name : is_name one.name ≡ true
   pub tester : is_of_bus one.tester ≡ true
   pub unit : is_of_bus one.unit ≡ true
   pub two : one.tester ≢ one.unit
+  pub functional : IsApart one.tester one.unit one.functional
 
 -- Two units have two names, and not both identifiers in common.
 pub record AreTwo (one other : UnitValue) : Type 0 where

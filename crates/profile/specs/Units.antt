@@ -1,20 +1,22 @@
 -- The units of a profile, in their order.
-use Rattle.std.specs.Prelude.{ℕ, ◌+◌, ◌&&◌, ◌==◌, nat_lt, Bool, false, List, [], ◌∷◌, ◌++◌, codes, bytes_eq, length, Option, Some, None, option_map, option_and_then, Result, Ok, Err, if◌then◌else◌}
+use Rattle.std.specs.Prelude.{ℕ, ◌+◌, ◌&&◌, ◌||◌, ◌==◌, nat_lt, Bool, false, List, [], ◌∷◌, ◌++◌, codes, bytes_eq, length, Option, Some, None, option_map, option_and_then, Result, Ok, Err, if◌then◌else◌}
 use Rattle.std.specs.Option.{option_or}
 use Rattle.toml.specs.Data.{Items, no_items, item, Members, as_str, as_table, get_member}
 use Rattle.can_log.specs.declared.frame.Id.{Id}
 use Rattle.can_log.specs.declared.frame.Id.TheVariants as id
 use Rattle.profile.specs.Wrong.{WrongValue, many_units, in_unit}
-use Rattle.profile.specs.UnitWrong.{UnitWrongValue, missing, same_identifier, same_name, same_pair}
+use Rattle.profile.specs.UnitWrong.{UnitWrongValue, missing, same_identifier, same_functional, same_name, same_pair}
 use Rattle.profile.specs.UnitKeys.{identifier_of, wrong_unit_keys}
 use Rattle.profile.specs.ProfileRules.{items_at, item_count}
 use Rattle.profile.specs.declared.unit_wrong.UnitKey.TheVariants as unit_key
 
--- A unit of a bench: its name, and the identifiers of the tester that asks it and of its own.
+-- A unit of a bench: its name, the identifiers of the tester that asks it and of its own, and that on which the tester asks
+-- all units, if it does.
 pub record UnitValue : Type 0 where
   pub name : List ℕ
   pub tester : Id
   pub unit : Id
+  pub functional : Option Id
 
 -- one format and one number
 abbrev pub is_same_identifier : Id → Id → Bool
@@ -31,14 +33,20 @@ text_at key table = option_and_then as_str (get_member key table)
 abbrev pub identifier_at : List ℕ → Members → Option Id
 identifier_at key table = option_and_then identifier_of (text_at key table)
 
--- a unit of these parts, or what is missing of it, or that both identifiers are one
-abbrev pub unit_of : Option (List ℕ) → Option Id → Option Id → Result UnitValue UnitWrongValue
-unit_of None tester unit = Err (missing unit_key.Name)
-unit_of (Some name) None unit = Err (missing unit_key.Tester)
-unit_of (Some name) (Some tester) None = Err (missing unit_key.Unit)
-unit_of (Some name) (Some tester) (Some unit) =
+-- there is an identifier of functional requests, and it is one of the two
+abbrev pub is_of_side : Option Id → Id → Id → Bool
+is_of_side None tester unit = false
+is_of_side (Some functional) tester unit = is_same_identifier functional tester || is_same_identifier functional unit
+
+-- a unit of these parts, or what is missing of it, or that two of its identifiers are one
+abbrev pub unit_of : Option (List ℕ) → Option Id → Option Id → Option Id → Result UnitValue UnitWrongValue
+unit_of None tester unit functional = Err (missing unit_key.Name)
+unit_of (Some name) None unit functional = Err (missing unit_key.Tester)
+unit_of (Some name) (Some tester) None functional = Err (missing unit_key.Unit)
+unit_of (Some name) (Some tester) (Some unit) functional =
     if is_same_identifier tester unit then Err same_identifier
-    else Ok (record { name = name; tester = tester; unit = unit })
+    else if is_of_side functional tester unit then Err same_functional
+    else Ok (record { name = name; tester = tester; unit = unit; functional = functional })
 
 -- what a table says of a unit of which this is wrong
 abbrev pub unless_wrong : Option UnitWrongValue → Result UnitValue UnitWrongValue → Result UnitValue UnitWrongValue
@@ -49,7 +57,8 @@ unless_wrong (Some wrong) unit = Err wrong
 abbrev pub unit_in : Members → Result UnitValue UnitWrongValue
 unit_in table =
     unless_wrong (wrong_unit_keys table)
-    (unit_of (text_at (codes "name") table) (identifier_at (codes "tester") table) (identifier_at (codes "unit") table))
+    (unit_of (text_at (codes "name") table) (identifier_at (codes "tester") table) (identifier_at (codes "unit") table)
+    (identifier_at (codes "functional") table))
 
 -- the place of the first unit of this name, if there is one
 abbrev pub place_of_name : List UnitValue → List ℕ → Option ℕ

@@ -27,6 +27,8 @@ pub struct ControlUnit {
     pub tester: Id,
     /// Its own identifier.
     pub unit: Id,
+    /// The identifier on which the tester asks all units, if it does.
+    pub functional: Option<Id>,
 }
 
 /// What a table says of a unit.
@@ -35,6 +37,7 @@ pub(crate) struct UnitParts<'a> {
     pub name: &'a str,
     pub tester: Id,
     pub unit: Id,
+    pub functional: Option<Id>,
 }
 
 /// The most units of a profile.
@@ -115,6 +118,7 @@ fn add_unit<'a>(
                     name: String::from_str(alloc, parts.name)?,
                     tester: parts.tester,
                     unit: parts.unit,
+                    functional: parts.functional,
                 })?;
                 Ok(None)
             }
@@ -142,7 +146,16 @@ fn unit_in<'a>(table: &'a Table) -> Result<UnitParts<'a>, UnitWrong<'a>>
     if is_same_identifier(tester, unit) {
         return Err(UnitWrong::SameIdentifier);
     }
-    Ok(UnitParts { name, tester, unit })
+    let functional = identifier_at(table, "functional");
+    if is_of_side(functional, tester, unit) {
+        return Err(UnitWrong::SameFunctional);
+    }
+    Ok(UnitParts {
+        name,
+        tester,
+        unit,
+        functional,
+    })
 }
 
 /// The identifier at a key, if one stands there.
@@ -158,7 +171,7 @@ fn identifier_at(table: &Table, key: &str) -> Option<Id>
 /// What is wrong with a unit beside earlier ones.
 fn wrong_beside<'a>(units: &[ControlUnit], parts: &UnitParts<'a>) -> Option<UnitWrong<'a>>
     ensures { option_map unit_wrong_value result ≡ Spec.wrong_beside (map unit_value units.now)
-        (record { name = parts.now.name.now; tester = parts.now.tester; unit = parts.now.unit }) }
+        (record { name = parts.now.name.now; tester = parts.now.tester; unit = parts.now.unit; functional = parts.now.functional }) }
 {
     if let Some(place) = place_of_name(units, parts.name) {
         return Some(UnitWrong::SameName(place));
@@ -195,6 +208,18 @@ fn place_of_pair(units: &[ControlUnit], tester: Id, unit: Id) -> Option<usize>
         place += 1;
     }
     None
+}
+
+/// Whether there is an identifier of functional requests, and it is one of the two.
+fn is_of_side(functional: Option<Id>, tester: Id, unit: Id) -> bool
+    ensures { result ≡ Spec.is_of_side functional tester unit }
+{
+    match functional {
+        Some(functional) => {
+            is_same_identifier(functional, tester) || is_same_identifier(functional, unit)
+        }
+        None => false,
+    }
 }
 
 /// Whether two identifiers have one format and one number.

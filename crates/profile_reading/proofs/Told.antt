@@ -133,23 +133,23 @@ names_are_legal frames pair =
 pub table-read : (name first second : List ℕ) (tester unit : Id) → is_name name ≡ true → identifier_of first ≡ Some tester → is_of_bus tester ≡ true
     → identifier_of second ≡ Some unit → is_of_bus unit ≡ true → is_same_identifier tester unit ≡ false
     → unit_in (member (codes "name") (string name) (member (codes "tester") (string first) (member (codes "unit") (string second) no_members)))
-    ≡ Ok (record { name = name; tester = tester; unit = unit })
+    ≡ Ok (record { name = name; tester = tester; unit = unit; functional = None })
 table-read name first second tester unit legal first_is tester_fits second_is unit_fits apart =
     ap (λ b. unless_wrong (option_or (if b then None else Some not_a_name)
     (option_or (wrong_spelled unit_key.Tester (identifier_of first)) (option_or (wrong_spelled unit_key.Unit (identifier_of second)) None)))
-    (unit_of (Some name) (identifier_of first) (identifier_of second))) legal
+    (unit_of (Some name) (identifier_of first) (identifier_of second) None)) legal
     ∙ ap (λ o. unless_wrong (option_or (wrong_spelled unit_key.Tester o) (option_or (wrong_spelled unit_key.Unit (identifier_of second)) None))
-    (unit_of (Some name) o (identifier_of second))) first_is
+    (unit_of (Some name) o (identifier_of second) None)) first_is
     ∙ ap (λ o. unless_wrong (option_or (wrong_spelled unit_key.Tester (Some tester)) (option_or (wrong_spelled unit_key.Unit o) None))
-    (unit_of (Some name) (Some tester) o)) second_is
+    (unit_of (Some name) (Some tester) o None)) second_is
     ∙ ap (λ b. unless_wrong (option_or (if b then None else Some (out_of_range unit_key.Tester))
-    (option_or (wrong_spelled unit_key.Unit (Some unit)) None)) (unit_of (Some name) (Some tester) (Some unit))) tester_fits
+    (option_or (wrong_spelled unit_key.Unit (Some unit)) None)) (unit_of (Some name) (Some tester) (Some unit) None)) tester_fits
     ∙ ap (λ b. unless_wrong (option_or (if b then None else Some (out_of_range unit_key.Unit)) None)
-    (unit_of (Some name) (Some tester) (Some unit))) unit_fits
+    (unit_of (Some name) (Some tester) (Some unit) None)) unit_fits
     ∙ ap (λ b. one-of b) apart
   where
     made : UnitValue
-    made = record { name = name; tester = tester; unit = unit }
+    made = record { name = name; tester = tester; unit = unit; functional = None }
 
     one-of : Bool → Result UnitValue UnitWrongValue
     one-of b = if b then Err same_identifier else Ok made

@@ -1,5 +1,5 @@
 -- What is told as a profile is read as it is meant.
-use Rattle.std.specs.Prelude.{◌≡◌, List, true, codes, Some, Ok}
+use Rattle.std.specs.Prelude.{◌≡◌, List, true, codes, Some, None, Ok}
 use Rattle.can_log.specs.Canonical.{identifier_text}
 use Rattle.can_log.specs.Frame.{FrameValue}
 use Rattle.can_log.specs.declared.frame.Id.{Id}
@@ -31,4 +31,4 @@ abbrev pub UnitsAreReadAsMeant : Type 0
 UnitsAreReadAsMeant =
     (frames : List FrameValue) (pair : IdPair) → IsUnitWithTester frames pair → is_of_bus pair.tester ≡ true → is_of_bus pair.unit ≡ true
     → unit_in (unit_table (credit_line frames pair))
-    ≡ Ok (record { name = unit_name (credit_line frames pair); tester = pair.tester; unit = pair.unit })
+    ≡ Ok (record { name = unit_name (credit_line frames pair); tester = pair.tester; unit = pair.unit; functional = None })

@@ -58,6 +58,17 @@ Adds settings functional (Err SameId) = ⊥
 Adds settings functional (Err SameFunctional) = IsCanIdentifier functional × ((functional ≡ settings.tester) ⊎ (functional ≡ settings.unit))
 Adds settings functional (Err LimitRange) = ⊥
 
+-- the same where there is such an identifier, of what was configured without it
+abbrev pub AddsIf : Option Id → Result Settings ConfigFault → Result Settings ConfigFault → Type 0
+AddsIf functional (Err fault) result = result ≡ Err fault
+AddsIf None (Ok settings) result = result ≡ Ok settings
+AddsIf (Some functional) (Ok settings) result = Adds settings functional result
+
+-- The settings of a session with these identifiers and no rules, or why there are none.
+abbrev pub ConfiguresSession : Id → Id → Option Id → ℕ → Result Settings ConfigFault → Type 0
+ConfiguresSession tester unit functional max_bytes result =
+    (plain : Result Settings ConfigFault) × Configures tester unit max_bytes plain × AddsIf functional plain result
+
 -- the identifiers of the frames that are read
 abbrev pub wanted_of : Settings → WantedValue
 wanted_of settings = record { first = settings.tester; second = settings.unit; third = settings.functional }

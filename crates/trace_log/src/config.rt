@@ -42,7 +42,7 @@ impl Model for Config {
 
 impl Config {
     ghost use Rattle.std.specs.Prelude.{◌≡◌};
-    ghost use Rattle.trace_log.specs.Settings.{AreSettings, Configures, Adds, without_rules, wanted_of, id_of, channel_by};
+    ghost use Rattle.trace_log.specs.Settings.{AreSettings, Configures, ConfiguresSession, Adds, without_rules, wanted_of, id_of, channel_by};
 
     /// The configuration with these parts, and no rules. A base identifier is at most 7FF, an extended one at most
     /// 1FFFFFFF, and the two sides don't have the same one: equal numbers of different formats are different
@@ -64,6 +64,25 @@ impl Config {
             max_bytes,
             rules: Rules::none(),
         })
+    }
+
+    /// The configuration of a session: of both sides, and of the identifier on which the tester asks all units, if it
+    /// does. Of several faults the first of [`Config::new`] is answered, and then that of [`Config::with_functional`].
+    pub fn of_session(
+        tester: Id,
+        unit: Id,
+        functional: Option<Id>,
+        max_bytes: u64,
+    ) -> Result<Config, ConfigFault>
+        ensures { ConfiguresSession tester unit functional max_bytes result }
+    {
+        match Config::new(tester, unit, max_bytes) {
+            Ok(config) => match functional {
+                Some(functional) => config.with_functional(functional),
+                None => Ok(config),
+            },
+            Err(fault) => Err(fault),
+        }
     }
 
     /// This configuration with these rules in place of its own.

@@ -11,7 +11,7 @@ use Rattle.trace_report.specs.Blocks.{begins_exchange}
 use Rattle.trace_report.specs.Items.{begins, rows_before}
 use Rattle.trace_report.specs.Rows.{RowValue, message, no_answer, dropped, ended, unfinished, cell_front, cell_end}
 use Rattle.trace_report.specs.MissingRows.{dropped_row, ended_row, no_answer_row, unfinished_row}
-use Rattle.trace_report.specs.MessageRows.{message_front, note_text}
+use Rattle.trace_report.specs.MessageRows.{functional_word, message_front, note_text}
 use Rattle.trace_report.specs.Session.{SessionValue}
 use Rattle.shown_bytes.specs.Data.{data_text, known_length}
 use Rattle.uds_rules.specs.Rule.{RuleValue}
@@ -109,7 +109,8 @@ chart_data rules log bytes (Some other) = beside_text rules log bytes other
 -- arrow
 abbrev pub chart_message : List RuleValue → PairLog → Option Marked → ℕ → MessageRole → Dir → MessagePlace → List ℕ → List ℕ
 chart_message rules log marked origin is d place bytes =
-    message_front false origin is place ++ cell_front d ++ parted_role_words is d bytes ++ chart_data rules log bytes (counterpart marked is)
+    message_front false origin is place ++ cell_front d ++ parted_role_words is d bytes ++ functional_word place.is_functional
+    ++ chart_data rules log bytes (counterpart marked is)
     ++ note_text is place (known_length rules bytes) ++ cell_end d arrow.Headed
 
 -- a row, to which no link leads, with these marks of its item

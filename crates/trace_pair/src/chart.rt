@@ -20,8 +20,8 @@ use shown_bytes::{Data, known_length};
 use text_parts::say;
 use trace_io::TextSink;
 use trace_report::{
-    Arrow, CellEnd, CellFront, KeptRows, KeptSession, MessageFront, Missing, Note, SentMessage,
-    SessionRow, begins_exchange, begins_item, say_missing_row,
+    Arrow, CellEnd, CellFront, FunctionalWord, KeptRows, KeptSession, MessageFront, Missing, Note,
+    SentMessage, SessionRow, begins_exchange, begins_item, say_missing_row,
 };
 use uds_rules::Rules;
 
@@ -245,6 +245,7 @@ fn say_row<S: TextSink>(
                     },
                     CellFront(dir),
                     PartedRoleWords(role, dir, message),
+                    FunctionalWord(place.is_functional),
                 ),
             );
             say_data(rules, log, message, counterpart(marked, role), out);

@@ -4,7 +4,7 @@ use Rattle.std.specs.Prelude.{if◌then◌else◌, ◌&&◌, not}
 use Rattle.std.proofs.lemmas.Bool.{cases_Bool}
 use Rattle.direction.specs.Dir.{Message}
 use Rattle.direction.specs.declared.Dir.{Dir}
-use Rattle.isotp_receive.specs.Channels.{dir_of}
+use Rattle.isotp_receive.specs.Channels.{dir_of, is_functional}
 use Rattle.isotp_receive.specs.declared.TheConstants.{MESSAGE_LIMIT}
 use Rattle.isotp_receive.specs.StandingReception.{stands}
 use Rattle.isotp_receive.specs.Trace.{Entry, role}
@@ -159,6 +159,7 @@ pub message_event : (rules : List RuleValue) (T : List Entry) (e : Entry) (event
     (here : FramePlace) (extent : MessageExtent) → event ≡ verdict MESSAGE_LIMIT T e → CompletesJudged rules T e judged
     → asked ≡ asked_in MESSAGE_LIMIT rules T → here ≡ place_of e
     → extent.first ≡ place_of (first_frame T e) → extent.frames ≡ frames_by (stands MESSAGE_LIMIT e.channel T) (role e.channel e)
+    → extent.is_functional ≡ is_functional e.channel
     → ended_rows e event.ended
     ++ (closing_before (messages_under rules MESSAGE_LIMIT T) (step_after (messages_under rules MESSAGE_LIMIT T) (sent judged))
     ++ tells_message (role_of_step asked (step_after (messages_under rules MESSAGE_LIMIT T) (sent judged)) judged.dir judged.bytes.now)
@@ -167,9 +168,10 @@ pub message_event : (rules : List RuleValue) (T : List Entry) (e : Entry) (event
       first = extent.first;
       last = here;
       frames = extent.frames;
+      is_functional = extent.is_functional;
     }) judged.bytes.now ∷ [])
     ≡ frame_rows MESSAGE_LIMIT rules T e
-message_event rules T e event judged asked here extent event_is completes asked_is here_is first_is frames_is =
+message_event rules T e event judged asked here extent event_is completes asked_is here_is first_is frames_is to_all_is =
     let M = messages_under rules MESSAGE_LIMIT T in
     let bytes = judged.bytes.now in
     let dir_is = completes.dir in
@@ -177,6 +179,6 @@ message_event rules T e event judged asked here extent event_is completes asked_
     (λ i. ended_rows e (event_is i).ended
     ++ (closing_before M (step_after M (sym dir_is i, bytes))
     ++ tells_message (role_of_step (asked_is i) (step_after M (sym dir_is i, bytes)) (sym dir_is i) bytes) (sym dir_is i)
-    (record { item = number_after M (sym dir_is i, bytes); first = first_is i; last = here_is i; frames = frames_is i }) bytes ∷ []))
+    (record { item = number_after M (sym dir_is i, bytes); first = first_is i; last = here_is i; frames = frames_is i; is_functional = to_all_is i }) bytes ∷ []))
     ∙ ap (λ made. ended_rows e ended ++ left_rows MESSAGE_LIMIT rules T e made) (sym completes.made)
     ∙ ap (λ v. ended_rows e ended ++ verdict_rows MESSAGE_LIMIT rules T e (ends_nothing ended) v) (sym completes.did)

@@ -3,7 +3,7 @@
 use Rattle.std.specs.Prelude.{ℕ, ◌+◌, Bool, true, false, List, [], ◌∷◌, ◌++◌, Option, Some, None, if◌then◌else◌}
 use Rattle.direction.specs.Dir.{Message}
 use Rattle.direction.specs.declared.Dir.{Dir}
-use Rattle.isotp_receive.specs.Channels.{dir_of}
+use Rattle.isotp_receive.specs.Channels.{dir_of, is_functional}
 use Rattle.isotp_receive.specs.declared.event.Ended.{Ended}
 use Rattle.isotp_receive.specs.StandingReception.{StandingReception, receptions_after, stands}
 use Rattle.isotp_receive.specs.Trace.{Entry, FrameRole, single, first, consecutive, continue_or_wait, overflow, no_part, role}
@@ -69,13 +69,14 @@ frames_by standing overflow = 1
 frames_by standing no_part = 1
 
 -- the place of what rules left of a message that the frame e completes after the frames T: its item, its first frame and
--- its last one, and how many carry it
+-- its last one, how many carry it, and whether it was sent to all units
 abbrev pub message_place : ℕ → List RuleValue → List Entry → Entry → List ℕ → MessagePlace
 message_place limit rules T e bytes = record {
   item = number_after (messages_under rules limit T) (dir_of e.channel, bytes);
   first = place_of (first_frame T e);
   last = place_of e;
   frames = frames_by (stands limit e.channel T) (role e.channel e);
+  is_functional = is_functional e.channel;
 }
 
 -- the row that tells that the request of the open exchange has no answer, if one is open after these messages

@@ -1,5 +1,5 @@
 -- The rows of messages: where a message stands, what it is to its item, its bytes, and a note.
-use Rattle.std.specs.Prelude.{ℕ, ◌==◌, ◌&&◌, Bool, true, List, [], ◌++◌, codes, nat_lt, Option, Some, None, if◌then◌else◌}
+use Rattle.std.specs.Prelude.{ℕ, ◌==◌, ◌&&◌, Bool, true, false, List, [], ◌++◌, codes, nat_lt, Option, Some, None, if◌then◌else◌}
 use Rattle.std.specs.Fmt.{decimal}
 use Rattle.direction.specs.declared.Dir.{Dir}
 use Rattle.uds_message.specs.Message.{sid, response_code}
@@ -74,6 +74,11 @@ role_words (role.Pending asked) d bytes = codes "<b>pending</b> "
 role_words role.KeepAlive d bytes = codes "<b>keep-alive</b> "
 role_words role.Stray d bytes = stray_words d
 
+-- the word of a message to all units; any other has none
+abbrev pub functional_word : Bool → List ℕ
+functional_word true = codes "<i>functional</i> "
+functional_word false = []
+
 -- how long after the last frame of its request the first frame of a reply came
 abbrev pub after_text : ℕ → ℕ → List ℕ
 after_text asked first = codes "after " ++ milliseconds_between asked first
@@ -115,5 +120,6 @@ note_text is place count =
 -- the full row of a message that rules have left, where `origin` is the time of the first frame of the two sides
 abbrev pub message_row : List RuleValue → ℕ → MessageRole → Dir → MessagePlace → List ℕ → List ℕ
 message_row rules origin is d place bytes =
-    message_front true origin is place ++ cell_front d ++ role_words is d bytes ++ data_text rules bytes
+    message_front true origin is place ++ cell_front d ++ role_words is d bytes ++ functional_word place.is_functional
+    ++ data_text rules bytes
     ++ note_text is place (known_length rules bytes) ++ cell_end d arrow.Headed

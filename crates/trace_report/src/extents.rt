@@ -1,6 +1,7 @@
 //! Where receptions and messages begin, and how many frames they have.
 ghost use Rattle.std.specs.Prelude.{◌≡◌, List, [], ◌∷◌, ◌++◌};
 ghost use Rattle.isotp_receive.specs.declared.TheConstants.{MESSAGE_LIMIT};
+ghost use Rattle.isotp_receive.specs.Channels.{is_functional};
 ghost use Rattle.isotp_receive.specs.StandingReception.{stands};
 ghost use Rattle.isotp_receive.specs.Trace.{Entry, role};
 ghost use Rattle.trace_run.specs.Seen.{IsEventOf};
@@ -20,11 +21,12 @@ pub(crate) struct ReceptionExtents {
     pub frames: FrameCounts,
 }
 
-/// Where a message begins, and how many frames carry it.
+/// Where a message begins, how many frames carry it, and whether it was sent to all units.
 #[derive(Clone, Copy, Debug)]
 pub(crate) struct MessageExtent {
     pub first: FramePlace,
     pub frames: u64,
+    pub is_functional: bool,
 }
 
 impl ReceptionExtents {
@@ -54,11 +56,16 @@ impl ReceptionExtents {
         ensures frames { (T : List Entry) (e : Entry) → IsEventOf T e here.line here.micros channel event.entry
             → KnowsExtents T self.old → CompletesMessage MESSAGE_LIMIT T e
             → result.frames ≡ frames_by (stands MESSAGE_LIMIT e.channel T) (role e.channel e) }
+        ensures functional { result.is_functional ≡ is_functional channel }
     {
         let frames = self.frames_of(channel, event.ended);
         let first = self.begun.take(here, channel, event);
         self.frames.take(channel, event.verdict);
-        MessageExtent { first, frames }
+        MessageExtent {
+            first,
+            frames,
+            is_functional: channel.is_functional(),
+        }
     }
 
     /// How many frames carry a message that a frame of this channel completes, and that ends this. Where it completes none,

@@ -104,7 +104,7 @@ impl Follower {
             → row_if result.0 ≡ closing_before M (step_after M (sent message.entry)) }
         ensures row { (M : List Message) → IsJudgedAfter M message.entry → message.entry.item_number ≡ number_after M (sent message.entry)
             → row_of result.1 ≡ tells_message (role_by self.old.asked (step_after M (sent message.entry)) message.entry.dir message.entry.bytes.now) message.entry.dir
-            (record { item = number_after M (sent message.entry); first = extent.first; last = here; frames = extent.frames }) message.entry.bytes.now }
+            (record { item = number_after M (sent message.entry); first = extent.first; last = here; frames = extent.frames; is_functional = extent.is_functional }) message.entry.bytes.now }
     {
         let waiting = closing_row_of(self.waits, self.silent);
         let sent = SentMessage {
@@ -115,6 +115,7 @@ impl Follower {
                 first: extent.first,
                 last: here,
                 frames: extent.frames,
+                is_functional: extent.is_functional,
             },
         };
         let row = SessionRow::Message {

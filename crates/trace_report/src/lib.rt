@@ -89,7 +89,7 @@ pub use keeper::keep_two;
 pub use kept_rows::KeptRows;
 pub use looks::Look;
 pub use message_rows::{MessageFront, NamedLines};
-pub use message_words::{FurtherNote, Note, RoleWords};
+pub use message_words::{FunctionalWord, FurtherNote, Note, RoleWords};
 pub use missing_rows::say_missing_row;
 pub use missing_words::{DroppedWords, EndedWords, UnfinishedWords};
 pub use reasons::UncleanReasons;

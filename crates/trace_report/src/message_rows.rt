@@ -5,7 +5,7 @@ ghost use Rattle.trace_report.specs.Roles.{begins_item};
 
 use crate::cells::{CellEnd, CellFront, RowFront};
 use crate::durations::Seconds;
-use crate::message_words::{Note, RoleWords};
+use crate::message_words::{FunctionalWord, Note, RoleWords};
 use crate::roles::{MessageRole, begins_item};
 use crate::row::{Arrow, MessagePlace, SentMessage};
 use crate::targets::{LinkTarget, target_if};
@@ -37,6 +37,7 @@ pub(crate) fn say_message_row<S: TextSink>(
             },
             CellFront(dir),
             RoleWords(role, dir, message),
+            FunctionalWord(place.is_functional),
             Data { rules, message },
             Note(role, place, known_length(rules, message)),
             CellEnd(dir, Arrow::Headed),

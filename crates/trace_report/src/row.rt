@@ -5,13 +5,15 @@ use direction::Dir;
 use isotp_receive::{Ended, Reason};
 use trace_canon::reception_starts::FramePlace;
 
-/// Where a message stands: its item, its first frame and its last one, and how many carry its bytes.
+/// Where a message stands: its item, its first frame and its last one, how many carry its bytes, and whether it was sent to
+/// all units.
 #[derive(Clone, Copy, Debug)]
 pub struct MessagePlace {
     pub item: u64,
     pub first: FramePlace,
     pub last: FramePlace,
     pub frames: u64,
+    pub is_functional: bool,
 }
 
 /// How an arrow of the chart ends.

@@ -84,9 +84,27 @@ values_line tester unit =
     (if is_of_bus (identifier_of unit) then codes "hint: --tester is " ++ quoted tester ++ codes ", --unit " ++ quoted unit ++ codes "\n" else value_line (codes "--unit") unit)
     else value_line (codes "--tester") tester
 
+-- the same of three values
+abbrev pub all_values_line : Text → Text → Text → List ℕ
+all_values_line tester unit functional =
+    if is_of_bus (identifier_of tester) then
+    (if is_of_bus (identifier_of unit) then
+    (if is_of_bus (identifier_of functional) then
+    codes "hint: --tester is " ++ quoted tester ++ codes ", --unit " ++ quoted unit ++ codes ", --functional " ++ quoted functional ++ codes "\n"
+    else value_line (codes "--functional") functional)
+    else value_line (codes "--unit") unit)
+    else value_line (codes "--tester") tester
+
+-- of two values, or of three
+abbrev pub line_of_values : Text → Text → Option Text → List ℕ
+line_of_values tester unit None = values_line tester unit
+line_of_values tester unit (Some functional) = all_values_line tester unit functional
+
 -- of the values that are given, or the usual ones
 abbrev pub given_line : List Row → List ℕ
-given_line rows = values_line (unwrap_or (first_of (codes "tester") rows) (codes "7E0")) (unwrap_or (first_of (codes "unit") rows) (codes "7E8"))
+given_line rows =
+    line_of_values (unwrap_or (first_of (codes "tester") rows) (codes "7E0")) (unwrap_or (first_of (codes "unit") rows) (codes "7E8"))
+    (first_of (codes "functional") rows)
 
 -- of a command with these values
 abbrev pub IsOfCommand : Option (Text × List Row) → List ℕ → Type 0
@@ -99,6 +117,7 @@ IsOfCommand (Some found) line = line ≡ given_line found.1
 abbrev pub IsOfConfig : ConfigFault → List Text → List ℕ → Type 0
 IsOfConfig config.IdRange given line = IsOfCommand (command_in (words_or_normalise given)) line
 IsOfConfig config.SameId given line = IsOfCommand (command_in (words_or_normalise given)) line
+IsOfConfig config.SameFunctional given line = IsOfCommand (command_in (words_or_normalise given)) line
 IsOfConfig config.LimitRange given line = line ≡ codes "hint: --limit takes 1 to 1099511627776 bytes\n"
 
 -- what is said of words that ask for nothing, by what is wrong with them; nothing of help, of a profile or of refused memory

@@ -13,8 +13,8 @@ use Rattle.asked_profile.specs.declared.choice.ChoiceFault.{ChoiceFault}
 use Rattle.asked_profile.specs.declared.choice.ChoiceFault.TheVariants as choice
 use Rattle.asked_profile.specs.declared.choice.RunIdentifiers.{RunIdentifiers}
 use Rattle.uds_rules.specs.Rule.{RuleValue}
-use Rattle.trace_log.specs.Settings.{Settings, Configures}
-use Rattle.udsnorm.specs.Values.{is_given, limit_in, tester_in, unit_in}
+use Rattle.trace_log.specs.Settings.{Settings, ConfiguresSession}
+use Rattle.udsnorm.specs.Values.{functional_in, is_given, limit_in, tester_in, unit_in}
 use Rattle.udsnorm.specs.declared.job.WordsFault.{WordsFault}
 use Rattle.udsnorm.specs.declared.job.WordsFault.TheVariants.{Help, Words, Identifier, Config, Profile, Unread, Memory}
 use Rattle.udsnorm.specs.declared.profiled.SeenProfile.{SeenProfile}
@@ -22,26 +22,36 @@ use Rattle.udsnorm.specs.declared.profiled.SeenProfile.TheVariants as seen
 
 -- ---- without a profile
 
--- what two identifiers and a limit ask for: a configuration, or the reason why there is none
-abbrev pub IsConfiguredAs : Id → Id → ℕ → Result Settings WordsFault → Type 0
-IsConfiguredAs tester unit limit (Ok settings) = Configures tester unit limit (Ok settings)
-IsConfiguredAs tester unit limit (Err (Config fault)) = Configures tester unit limit (Err fault)
-IsConfiguredAs tester unit limit (Err (Help text)) = ⊥
-IsConfiguredAs tester unit limit (Err (Words text)) = ⊥
-IsConfiguredAs tester unit limit (Err Identifier) = ⊥
-IsConfiguredAs tester unit limit (Err (Profile line)) = ⊥
-IsConfiguredAs tester unit limit (Err (Unread line)) = ⊥
-IsConfiguredAs tester unit limit (Err Memory) = ⊥
+-- what identifiers and a limit ask for: a configuration, or the reason why there is none
+abbrev pub IsConfiguredAs : Id → Id → Option Id → ℕ → Result Settings WordsFault → Type 0
+IsConfiguredAs tester unit functional limit (Ok settings) = ConfiguresSession tester unit functional limit (Ok settings)
+IsConfiguredAs tester unit functional limit (Err (Config fault)) = ConfiguresSession tester unit functional limit (Err fault)
+IsConfiguredAs tester unit functional limit (Err (Help text)) = ⊥
+IsConfiguredAs tester unit functional limit (Err (Words text)) = ⊥
+IsConfiguredAs tester unit functional limit (Err Identifier) = ⊥
+IsConfiguredAs tester unit functional limit (Err (Profile line)) = ⊥
+IsConfiguredAs tester unit functional limit (Err (Unread line)) = ⊥
+IsConfiguredAs tester unit functional limit (Err Memory) = ⊥
 
--- The same of the identifiers that two texts spell. Where one of them spells none, that is the reason.
-abbrev pub IsConfiguredBy : Option Id → Option Id → ℕ → Result Settings WordsFault → Type 0
-IsConfiguredBy (Some tester) (Some unit) limit result = IsConfiguredAs tester unit limit result
-IsConfiguredBy (Some tester) None limit result = result ≡ Err Identifier
-IsConfiguredBy None unit limit result = result ≡ Err Identifier
+-- the same where a text is to spell the identifier of functional requests: where it spells none, that is the reason
+abbrev pub IsConfiguredToAll : Id → Id → Option Id → ℕ → Result Settings WordsFault → Type 0
+IsConfiguredToAll tester unit (Some functional) limit result = IsConfiguredAs tester unit (Some functional) limit result
+IsConfiguredToAll tester unit None limit result = result ≡ Err Identifier
 
--- the configuration of the values of `--tester`, `--unit` and `--limit`
+-- and where no such text is given
+abbrev pub IsConfiguredTo : Id → Id → Option (Option Id) → ℕ → Result Settings WordsFault → Type 0
+IsConfiguredTo tester unit (Some functional) limit result = IsConfiguredToAll tester unit functional limit result
+IsConfiguredTo tester unit None limit result = IsConfiguredAs tester unit None limit result
+
+-- The same of the identifiers that two texts spell, or three. Where one of them spells none, that is the reason.
+abbrev pub IsConfiguredBy : Option Id → Option Id → Option (Option Id) → ℕ → Result Settings WordsFault → Type 0
+IsConfiguredBy (Some tester) (Some unit) functional limit result = IsConfiguredTo tester unit functional limit result
+IsConfiguredBy (Some tester) None functional limit result = result ≡ Err Identifier
+IsConfiguredBy None unit functional limit result = result ≡ Err Identifier
+
+-- the configuration of the values of `--tester`, `--unit`, `--functional` and `--limit`
 abbrev pub IsConfiguredIn : List Row → Result Settings WordsFault → Type 0
-IsConfiguredIn rows result = IsConfiguredBy (tester_in rows) (unit_in rows) (limit_in rows) result
+IsConfiguredIn rows result = IsConfiguredBy (tester_in rows) (unit_in rows) (functional_in rows) (limit_in rows) result
 
 -- ---- what is told
 
@@ -91,21 +101,23 @@ under_rules rules (Err fault) = Err fault
 abbrev pub IsUnder : List RuleValue → (Result Settings WordsFault → Type 0) → Result Settings WordsFault → Type 0
 IsUnder rules IsPlain result = (plain : Result Settings WordsFault) × IsPlain plain × (result ≡ under_rules rules plain)
 
--- the first of the options `--tester` and `--unit` that is given
-abbrev pub side_given : Option Text → Option Text → Option Text
-side_given (Some tester) unit = Some (codes "tester")
-side_given None (Some unit) = Some (codes "unit")
-side_given None None = None
+-- the first of the options `--tester`, `--unit` and `--functional` that is given
+abbrev pub side_given : Option Text → Option Text → Option Text → Option Text
+side_given (Some tester) unit functional = Some (codes "tester")
+side_given None (Some unit) functional = Some (codes "unit")
+side_given None None (Some functional) = Some (codes "functional")
+side_given None None None = None
 
 -- the same where units say what they say
 abbrev pub side_beside : List UnitValue → List Row → Option Text
 side_beside [] rows = None
-side_beside (one ∷ rest) rows = side_given (first_of (codes "tester") rows) (first_of (codes "unit") rows)
+side_beside (one ∷ rest) rows =
+    side_given (first_of (codes "tester") rows) (first_of (codes "unit") rows) (first_of (codes "functional") rows)
 
 -- the configuration of the identifiers of the unit that was chosen, or of the words' own where there are no units
 abbrev pub IsOfSides : Option RunIdentifiers → List Row → Result Settings WordsFault → Type 0
 IsOfSides None rows result = IsConfiguredIn rows result
-IsOfSides (Some sides) rows result = IsConfiguredAs sides.tester sides.unit (limit_in rows) result
+IsOfSides (Some sides) rows result = IsConfiguredAs sides.tester sides.unit sides.functional (limit_in rows) result
 
 -- that of what was chosen of a profile, under its rules, or that nothing was
 abbrev pub IsOfChoice : Text → List Row → ProfileValue → Result (Option RunIdentifiers) ChoiceFault → Result Settings WordsFault → Type 0

@@ -34,6 +34,7 @@ side_line (Right fault) = codes "right: " ++ fault_line fault
 abbrev pub config_line : ConfigFault → List ℕ
 config_line config.IdRange = codes "identifier out of range\n"
 config_line config.SameId = codes "tester and unit have the same identifier\n"
+config_line config.SameFunctional = codes "functional identifier is that of tester or unit\n"
 config_line config.LimitRange = codes "limit out of range\n"
 
 -- the line of two logs that are one stream

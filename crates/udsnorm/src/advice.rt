@@ -4,10 +4,10 @@ ghost use Rattle.std.specs.Prelude.{◌≡◌, IfOk, map, option_map, string_byt
 ghost use Rattle.std.specs.Char.{is_ascii_hexdigit};
 ghost use Rattle.std.specs.List.{list_all};
 ghost use Rattle.clap.specs.Words.{found_of, rows_of, subcommand_rows_of};
-ghost use Rattle.udsnorm.specs.Advice.{IsAdviceFor, IsOfCommand, IsOfFiles, IsOfFirst, IsOfWords, behind_prefix, file_line, files_line, given_line, is_of_bus, is_spelled, line_of_word, value_line, values_line};
+ghost use Rattle.udsnorm.specs.Advice.{IsAdviceFor, IsOfCommand, IsOfFiles, IsOfFirst, IsOfWords, behind_prefix, file_line, files_line, given_line, is_of_bus, is_spelled, line_of_word, all_values_line, value_line, values_line};
 ghost use Rattle.udsnorm.specs.Commands.{command_in, words_or_normalise};
 
-use crate::commands::{COMMANDS, TESTER, UNIT, USUAL_TESTER, USUAL_UNIT};
+use crate::commands::{COMMANDS, FUNCTIONAL, TESTER, UNIT, USUAL_TESTER, USUAL_UNIT};
 use crate::job::WordsFault;
 use crate::values::text_of;
 use crate::words::found;
@@ -48,9 +48,10 @@ pub(crate) fn advice_for<R: AllocGlobal + Files>(
     let alloc = rt.alloc();
     match fault {
         WordsFault::Words(_) => advice_for_words(rt, words),
-        WordsFault::Identifier | WordsFault::Config(ConfigFault::IdRange | ConfigFault::SameId) => {
-            advice_for_values(alloc, words)
-        }
+        WordsFault::Identifier
+        | WordsFault::Config(
+            ConfigFault::IdRange | ConfigFault::SameId | ConfigFault::SameFunctional,
+        ) => advice_for_values(alloc, words),
         WordsFault::Config(ConfigFault::LimitRange) => line_in(alloc, OF_THE_LIMIT),
         WordsFault::Help(_) | WordsFault::Profile(_) | WordsFault::Unread(_) | WordsFault::Memory =>
             Ok(Vec::new(alloc)),
@@ -189,7 +190,42 @@ fn given_line(alloc: Global, found: &ArgMatches<'_>) -> Result<Vec<u8>, AllocErr
 {
     let tester = text_of(found, TESTER).unwrap_or(USUAL_TESTER);
     let unit = text_of(found, UNIT).unwrap_or(USUAL_UNIT);
-    values_line(alloc, tester, unit)
+    match text_of(found, FUNCTIONAL) {
+        Some(functional) => all_values_line(alloc, tester, unit, functional),
+        None => values_line(alloc, tester, unit),
+    }
+}
+
+/// The line for three values of which one is no identifier, or of which two are the same.
+fn all_values_line<'a>(
+    alloc: Global,
+    tester: &'a str,
+    unit: &'a str,
+    functional: &'a str,
+) -> Result<Vec<u8>, AllocError>
+    ensures { IfOk result (λ line. line.items ≡ all_values_line tester.entry.now unit.entry.now functional.entry.now) }
+{
+    if !is_of_bus(identifier_of(tester)) {
+        return value_line(alloc, "--tester", tester);
+    }
+    if !is_of_bus(identifier_of(unit)) {
+        return value_line(alloc, "--unit", unit);
+    }
+    if !is_of_bus(identifier_of(functional)) {
+        return value_line(alloc, "--functional", functional);
+    }
+    line_in(
+        alloc,
+        (
+            "hint: --tester is ",
+            Quoted(tester.as_bytes()),
+            ", --unit ",
+            Quoted(unit.as_bytes()),
+            ", --functional ",
+            Quoted(functional.as_bytes()),
+            "\n",
+        ),
+    )
 }
 
 /// The line for two values of which one is no identifier, or that are the same.

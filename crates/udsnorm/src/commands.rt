@@ -193,6 +193,8 @@ pub(crate) const TESTER: &str = "tester";
 
 pub(crate) const UNIT: &str = "unit";
 
+pub(crate) const FUNCTIONAL: &str = "functional";
+
 pub(crate) const PROFILE: &str = "profile";
 
 pub(crate) const ONLY: &str = "only";
@@ -237,6 +239,11 @@ const SIDES: &[Argument] = &[
         help: OF_THE_UNIT,
     },
     Argument::Text {
+        name: FUNCTIONAL,
+        value: "ID",
+        help: OF_ALL_UNITS,
+    },
+    Argument::Text {
         name: PROFILE,
         value: "FILE",
         help: "What to leave out of the session, and the units of the bench, as TOML",
@@ -261,6 +268,11 @@ const SIDES_OF_THE_LOG: &[Argument] = &[
         help: OF_THE_UNIT,
     },
     Argument::Text {
+        name: FUNCTIONAL,
+        value: "ID",
+        help: OF_ALL_UNITS,
+    },
+    Argument::Text {
         name: PROFILE,
         value: "FILE",
         help: "The units of the bench, as TOML; nothing is left out here",
@@ -276,6 +288,9 @@ const OF_THE_TESTER: &str = "Identifier of the tester, 3 or 8 hexadecimal digits
 
 const OF_THE_UNIT: &str =
     "Identifier of the control unit, 3 or 8 hexadecimal digits [default: 7E8]";
+
+const OF_ALL_UNITS: &str =
+    "Identifier on which the tester asks all units at once, as 7DF [default: none]";
 
 const OF_ONE_UNIT: &str = "The unit of the profile whose session this is";
 

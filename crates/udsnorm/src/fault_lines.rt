@@ -125,6 +125,7 @@ fn config_line(fault: ConfigFault) -> &'static str
     match fault {
         ConfigFault::IdRange => "identifier out of range\n",
         ConfigFault::SameId => "tester and unit have the same identifier\n",
+        ConfigFault::SameFunctional => "functional identifier is that of tester or unit\n",
         ConfigFault::LimitRange => "limit out of range\n",
     }
 }

@@ -11,7 +11,7 @@ use Rattle.asked_profile.specs.Choice.{chosen_of, unit_names}
 use Rattle.asked_profile.specs.declared.choice.ChoiceFault.{ChoiceFault}
 use Rattle.asked_profile.specs.declared.choice.ChoiceFault.TheVariants.{NoUnits, NoSuchUnit, SeveralUnits}
 use Rattle.asked_profile.specs.declared.choice.RunIdentifiers.{RunIdentifiers}
-use Rattle.trace_log.specs.Settings.{AreSettings, Configures, Settings}
+use Rattle.trace_log.specs.Settings.{AreSettings, ConfiguresSession, Settings}
 use Rattle.udsnorm_c.specs.Spelled.{identifier_of}
 use Rattle.udsnorm_c.specs.declared.given.Given.{Given}
 use Rattle.udsnorm_c.specs.declared.given.NoConfig.{NoConfig}
@@ -55,18 +55,18 @@ IsRefusedChoice text (no.Config fault) = ⊥
 IsRefusedChoice text (no.Profile told) = (told.line ≡ 0) × (told.text.items ≡ text)
 IsRefusedChoice text no.Memory = ⊤
 
--- the settings of two identifiers and a limit, under rules, or why there are none
-abbrev pub ConfiguresUnder : List RuleValue → Id → Id → ℕ → Result Settings NoConfig → Type 0
-ConfiguresUnder rules tester unit max_bytes (Ok settings) =
-    (plain : Settings) × Configures tester unit max_bytes (Ok plain) × (settings ≡ record plain { rules = rules }) × AreSettings settings
-ConfiguresUnder rules tester unit max_bytes (Err (no.Config fault)) = Configures tester unit max_bytes (Err fault)
-ConfiguresUnder rules tester unit max_bytes (Err (no.Profile told)) = ⊥
-ConfiguresUnder rules tester unit max_bytes (Err no.Memory) = ⊥
+-- the settings of these identifiers and a limit, under rules, or why there are none
+abbrev pub ConfiguresUnder : List RuleValue → Id → Id → Option Id → ℕ → Result Settings NoConfig → Type 0
+ConfiguresUnder rules tester unit functional max_bytes (Ok settings) =
+    (plain : Settings) × ConfiguresSession tester unit functional max_bytes (Ok plain) × (settings ≡ record plain { rules = rules }) × AreSettings settings
+ConfiguresUnder rules tester unit functional max_bytes (Err (no.Config fault)) = ConfiguresSession tester unit functional max_bytes (Err fault)
+ConfiguresUnder rules tester unit functional max_bytes (Err (no.Profile told)) = ⊥
+ConfiguresUnder rules tester unit functional max_bytes (Err no.Memory) = ⊥
 
 -- those of the unit that was chosen, or of the identifiers that the call is handed; or nothing was chosen
 abbrev pub ConfiguresChosen : GivenValue → ProfileValue → Result (Option RunIdentifiers) ChoiceFault → Result Settings NoConfig → Type 0
-ConfiguresChosen given profile (Ok None) result = ConfiguresUnder profile.rules (identifier_of given.tester) (identifier_of given.unit) given.max_bytes result
-ConfiguresChosen given profile (Ok (Some sides)) result = ConfiguresUnder profile.rules sides.tester sides.unit given.max_bytes result
+ConfiguresChosen given profile (Ok None) result = ConfiguresUnder profile.rules (identifier_of given.tester) (identifier_of given.unit) None given.max_bytes result
+ConfiguresChosen given profile (Ok (Some sides)) result = ConfiguresUnder profile.rules sides.tester sides.unit sides.functional given.max_bytes result
 ConfiguresChosen given profile (Err fault) (Ok settings) = ⊥
 ConfiguresChosen given profile (Err fault) (Err why) = IsRefusedChoice (choice_text profile.units given.only fault) why
 

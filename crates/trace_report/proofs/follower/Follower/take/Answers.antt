@@ -1,6 +1,7 @@
 -- The rows of a frame, by whether it completed a message, and what the follower knows behind it.
 use Rattle.std.proofs.Common.{◌≡◌, List, ap, sym, subst, ◌∙◌, [], ◌∷◌, ◌++◌}
 use Rattle.isotp_receive.specs.declared.TheConstants.{MESSAGE_LIMIT}
+use Rattle.isotp_receive.specs.Channels.{is_functional}
 use Rattle.isotp_receive.specs.EventSeen.{seen_event}
 use Rattle.isotp_receive.specs.Trace.{Entry}
 use Rattle.uds_rules.specs.Rule.{RuleValue}
@@ -63,7 +64,7 @@ returns-in-Some-clause-rows c = λ rules T e seen known.
     rows_of_message (row_if c.ended_row_of-first.result) (row_if c.take_message.result.0) (row_of c.take_message.result.1)
     ∙ (λ i. ended i ++ (closing i ++ row i ∷ []))
     ∙ message_event rules T e (seen_event what.event) message c.args.self.now.asked here c.take-extent.result at.did completes
-    known.met.asked_then stands first frames
+    known.met.asked_then stands first frames (c.take-extent.ensures.functional ∙ ap is_functional (sym seen.event.channel))
 
 pub returns-in-None-clause-next : goal.returns-in-None-clause-next
 returns-in-None-clause-next c = λ rules T e seen known.
