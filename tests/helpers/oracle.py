@@ -17,6 +17,13 @@ from collections import Counter, namedtuple
 
 TESTER, UNIT = "tester", "unit"
 OTHER = {TESTER: UNIT, UNIT: TESTER}
+
+# Beside its own identifier a tester may have one on which it asks all units. Its frames are no part of any reception, so they
+# go through all definitions as a direction of their own, of which no message has several frames.
+FUNCTIONAL = "functional"
+OTHER[FUNCTIONAL] = UNIT
+SENDERS = {TESTER: TESTER, UNIT: UNIT, FUNCTIONAL: TESTER}
+
 SIDES = {TESTER: "7E0", UNIT: "7E8"}
 
 MESSAGE_LIMIT = 1_048_575
@@ -99,6 +106,8 @@ def trace(lines, sides=SIDES):
             digits = match["classic"] or match["whole"] or match["fd"] or b""
             data = bytes.fromhex(digits.decode())
             layout = Nothing("remote frame") if match["remote"] else layout_of(data)
+            if sender == FUNCTIONAL and not isinstance(layout, (Single, Nothing)):
+                layout = Nothing("functional frame not single")
             entries.append(Entry(number, micros, sender, layout, len(data), data))
     return entries
 
@@ -219,7 +228,7 @@ def delivered(frames, p):
 
 def messages(frames):
     """The messages of a trace with their directions, in the order in which they are completed."""
-    found = ((entry.direction, delivered(frames, p)) for p, entry in enumerate(frames))
+    found = ((SENDERS[entry.direction], delivered(frames, p)) for p, entry in enumerate(frames))
     return [(direction, message) for direction, message in found if message is not None]
 
 
@@ -499,8 +508,8 @@ def told_of(frames):
             event = {"line": entry.line, "event": "ended", **members, "cause": cause}
             told.append(Told(f"line {entry.line}: {words} ended: {cause}", event))
         if reason:
-            event = {"line": entry.line, "event": "dropped", "direction": entry.direction, **reason.members}
-            told.append(Told(f"line {entry.line}: {entry.direction} frame dropped: {reason.words}", event))
+            event = {"line": entry.line, "event": "dropped", "direction": SENDERS[entry.direction], **reason.members}
+            told.append(Told(f"line {entry.line}: {SENDERS[entry.direction]} frame dropped: {reason.words}", event))
     return told
 
 
@@ -513,14 +522,14 @@ def reception_told(frames, direction, p):
     )
 
 
-def explanation(lines):
+def explanation(lines, sides=SIDES):
     """What is told of a log of these lines: of its frames, of the receptions that its end leaves, and how many of each
     there are."""
-    frames = trace(lines)
+    frames = trace(lines, sides)
     end = len(frames)
     unfinished = [reception_told(frames, direction, end) for direction in (TESTER, UNIT) if reception(frames, direction, end)]
     told = [Told(f"end: {words} unfinished", {"event": "unfinished", **members}) for words, members in unfinished]
-    counts = counts_of(lines)
+    counts = counts_of(lines, sides)
     words = " ".join(f"{name} {count}" for name, count in counts.items())
     return [*told_of(frames), *told, Told(words, {"event": "counts", **counts})]
 
@@ -545,7 +554,7 @@ def counts_of(lines, sides=SIDES):
 def unclean(log, sides=SIDES):
     """What is told of a log that is not clean, and nothing of one that is."""
     counts = counts_of(cut(log), sides)
-    senders = [entry.direction for entry in trace(cut(log), sides)]
+    senders = [SENDERS[entry.direction] for entry in trace(cut(log), sides)]
     lacking = [f"frame of the {side}" for side in (TESTER, UNIT) if side not in senders]
     lacking += ["line feed at the end"] if log and not log.endswith(b"\n") else []
     if lacking or counts["dropped"] + counts["ended"] + counts["unfinished"]:
@@ -601,7 +610,8 @@ def places(frames):
         start, stop, spelled = stamp(first.micros), stamp(last.micros), digits(message)
         words = f"{number} {role} {direction} lines {first.line} to {last.line} at {start} to {stop} {spelled}"
         members = {"item": number, "role": role, "direction": direction, "first_line": first.line, "last_line": last.line}
-        told.append(Told(words, {**members, "start": start, "end": stop, "message": spelled}))
+        mark = {"functional": True} if last.direction == FUNCTIONAL else {}
+        told.append(Told(words, {**members, "start": start, "end": stop, **mark, "message": spelled}))
     return told
 
 
@@ -768,26 +778,26 @@ def outcome(log, limit=GIBIBYTE, sides=SIDES):
     return Outcome(DONE, None, "".join(text).encode())
 
 
-def listed(log, limit=GIBIBYTE, write=list_text):
+def listed(log, limit=GIBIBYTE, write=list_text, sides=SIDES):
     """The list of a log, which is accepted and refused as its canonical log is. Nothing is written of a refused log."""
-    came = outcome(log, limit)
-    return Outcome(came.status, came.fault, write(items_of(cut(log))).encode() if came.status == DONE else b"")
+    came = outcome(log, limit, sides)
+    return Outcome(came.status, came.fault, write(items_of(cut(log), sides)).encode() if came.status == DONE else b"")
 
 
-def watched(log, limit=GIBIBYTE, write=list_text):
+def watched(log, limit=GIBIBYTE, write=list_text, sides=SIDES):
     """The list of a log, however long its canonical log is; where it is refused, that of what its lines before decide."""
     refused = refusal(log, limit, is_long_refused=False)
     if refused:
-        return Outcome(REFUSED, refused.fault, write(decided(messages(trace(refused.lines)))).encode())
-    return Outcome(DONE, None, write(items_of(cut(log))).encode())
+        return Outcome(REFUSED, refused.fault, write(decided(messages(trace(refused.lines, sides)))).encode())
+    return Outcome(DONE, None, write(items_of(cut(log), sides)).encode())
 
 
-def explained(log, limit=GIBIBYTE, write=in_words):
+def explained(log, limit=GIBIBYTE, write=in_words, sides=SIDES):
     """The explanation of a log; where it is refused, that of its frames before the fault."""
     refused = refusal(log, limit, is_long_refused=False)
     if refused:
-        return Outcome(REFUSED, refused.fault, write(told_of(trace(refused.lines))).encode())
-    return Outcome(DONE, None, write(explanation(cut(log))).encode())
+        return Outcome(REFUSED, refused.fault, write(told_of(trace(refused.lines, sides))).encode())
+    return Outcome(DONE, None, write(explanation(cut(log), sides)).encode())
 
 
 def placed(log, limit=GIBIBYTE, sides=SIDES, write=in_words):
