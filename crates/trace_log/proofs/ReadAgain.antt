@@ -292,6 +292,7 @@ still_settings settings are = record {
   tester = are.tester;
   unit = are.unit;
   apart = are.apart;
+  functional = are.functional;
   least = are.least;
   most = are.most;
   rules = record { most = omega arith; each = tt; apart = tt };
