@@ -1,5 +1,6 @@
 //! The frames of a log received: what each does, and what is counted and summed up.
 ghost use Rattle.std.specs.Prelude.{◌≡◌, List, IfErr};
+ghost use Rattle.isotp_receive.specs.Channels.{dir_of};
 ghost use Rattle.isotp_receive.specs.EventSeen.{seen_event};
 ghost use Rattle.isotp_receive.specs.Events.{unfinished_in};
 ghost use Rattle.isotp_receive.specs.StandingReception.{receptions_after};
