@@ -148,7 +148,7 @@ other_taken d T line micros frame taken is =
     let o : Channel = channel_of (other_direction d) in
     let e : Entry = entry_at line micros (channel_of d) frame in
     rw (one_more MESSAGE_LIMIT o T e, role_other d line micros frame)
-    (other_next line micros (stands MESSAGE_LIMIT o T) taken (to_one (layout_of frame)) is)
+    (other_next line micros 0 (omega arith) (stands MESSAGE_LIMIT o T) taken (to_one (layout_of frame)) is)
 
 -- a frame to all units leaves both
 still_taken : (x : Dir) (T : List Entry) (e : Entry) (taken : ℕ) → e.channel ≡ on.Functional → IsTaken x T taken → IsTaken x (T ++ e ∷ []) taken
