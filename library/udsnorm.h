@@ -78,7 +78,7 @@ struct udsnorm_answer {
                            was dropped, ended or unfinished, and its last byte is a line feed. Else 0. */
     /* UDSNORM_DONE, UDSNORM_ROOM, but of two logs: the counts of the log. */
     uint64_t lines;      /* its lines, blank and foreign ones included */
-    uint64_t frames;     /* the frames with the identifier of the tester or the unit */
+    uint64_t frames;     /* the frames of the tester and the unit */
     uint64_t messages;   /* the messages that were received whole */
     uint64_t dropped;    /* those of `frames` that were dropped */
     uint64_t ended;      /* the receptions that ended without a message before the log did */
@@ -113,7 +113,7 @@ struct udsnorm_answer {
  * and the bytes behind it are as they were. So is what is wrong in a profile with UDSNORM_PROFILE, where `room` is at
  * least answer->length; 4,096 bytes are enough for it. With every other status all of `out` is as it was. Where the room
  * was too small, the status is UDSNORM_ROOM, and answer->length says how much is wanted. A room of 4 * length + 512 bytes
- * is enough for each text, and one of 8 * length + 512 for objects of JSON, of logs with up to 10^11 lines. For
+ * is enough for each text, and one of 8 * length + 512 for objects of JSON, of logs with up to 10^10 lines. For
  * udsnorm_diff `length` is here that of both logs and both names together, 16 * length + 512 is enough for objects, and
  * a profile with rules makes the text up to 16,384 bytes longer. A page is longer: ask with a room of 0 for its length,
  * or again with that where there was too little room.

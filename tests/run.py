@@ -58,6 +58,7 @@ LIST = [
     Test("documents/recipes.py", OF_LIBRARY, 2),
     Test("program/command_line.py", OF_PROGRAM, 1),
     Test("program/profiles.py", OF_PROGRAM, 6),
+    Test("program/functional.py", OF_PROGRAM, 6),
     Test("program/benches.py", OF_PROGRAM, 1),
     Test("program/hints.py", OF_PROGRAM, 1),
     Test("documents/shipped.py", OF_PROGRAM, 1),

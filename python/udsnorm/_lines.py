@@ -179,13 +179,15 @@ class RowCounts(_RowCountsFields):
 
 
 class Pair(NamedTuple):
-    """A unit and its tester, how many of the tester's requests the unit answered, and how many requests the tester sent.
-    The identifiers are those that the calls take as `tester` and `unit`, as Linux's canid_t has them."""
+    """A unit and its tester, how many of the tester's requests the unit answered, and how many requests the tester sent;
+    and an identifier for functional requests beside them, where the log has one. The identifiers are those that the
+    calls take as `tester` and `unit`, as Linux's canid_t has them."""
 
     credits: int
     tester: int
     unit: int
     requests: int
+    functional: Optional[int] = None
 
 
 class _CountsFields(NamedTuple):
@@ -330,7 +332,8 @@ def pairs_of(objects: bytes) -> List[Pair]:
 
 
 def _pair(told: Dict[str, Any]) -> Pair:
-    return Pair(told["credits"], _identifier(told["tester"]), _identifier(told["unit"]), told["requests"])
+    functional = _identifier(told["functional"]) if "functional" in told else None
+    return Pair(told["credits"], _identifier(told["tester"]), _identifier(told["unit"]), told["requests"], functional)
 
 
 def _identifier(digits: str) -> int:

@@ -19,7 +19,7 @@ from typing import IO, Dict, Iterable, List, Optional, Sequence, Tuple, Union
 from ._formats import HEAD, Fault, Log, decides, is_for_the_program, shown
 
 #: The options of the program that take a value.
-VALUED = ("--tester", "--unit", "--profile", "--only", "--limit")
+VALUED = ("--tester", "--unit", "--functional", "--profile", "--only", "--limit")
 # The commands over two logs alone, which never read standard input, and those whose text shows the names of logs.
 _OF_TWO, _SHOWING = ("compare", "diff"), ("diff", "report")
 # The options that make it tell of itself, and read nothing.

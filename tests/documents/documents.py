@@ -377,7 +377,7 @@ TAKEN_AWAY = [
     ("a hint may be given where none is wanted", "udsnorm/specs/Process.antt", r"  pub only_there : is_wanted .*\n", ""),
     ("memory may be refused for any log", "trace_canon/specs/InMemory.antt", r"  pub memory : fault ≡ Memory → .*\n", ""),
     ("each log is clean", "udsnorm/specs/Ending.antt", r"^is_unclean strict summary = .*", "is_unclean strict summary = false"),
-    ("pairs may have any order", "uds_find/specs/Finding.antt", r"  pub sorted : .*\n", ""),
+    ("pairs may have any order", "uds_find/specs/Finding.antt", r"  pub sorted : IsSorted .*\n", ""),
     ("the least credits stand first", "uds_find/specs/Finding.antt", r"other\.credits one\.credits", "one.credits other.credits"),
     ("faults have another order", "isotp_pdu/specs/Fault.antt", r"^precedence fault.Remote = 1", "precedence fault.Remote = 2"),
     ("a name is that of another definition", "udsnorm/specs/Run.antt", r"\{ComesTo, answer_written, flushes, status_of_run, ", "{ComesTo, answer_written, flushes, status_of_pair as status_of_run, "),

@@ -65,7 +65,7 @@ def names_are_complete(cases):
     wrong = [f"no {option}" for option in missing_in(page.get("OPTIONS", ""), sorted(options))]
     cases.report("the manual page tells what each option does", wrong if len(options) >= 8 else [f"{options} in the help"])
     defaults = defaults_in(helps["list"])
-    wrong = missing_in(page.get("OPTIONS", ""), defaults) if len(defaults) == 3 else [f"{len(defaults)} defaults in the help"]
+    wrong = missing_in(page.get("OPTIONS", ""), defaults) if len(defaults) == 4 else [f"{len(defaults)} defaults in the help"]
     cases.report("the manual page has the defaults of the help", wrong)
 
 

@@ -29,6 +29,7 @@ SIGNS = [
     (b"\xa1\xb2\x3c\x4d", f"looks like a pcap capture; {READS_IT}"),
     (b"\x4d\x3c\xb2\xa1", f"looks like a pcap capture; {READS_IT}"),
     (b"\n\r\r\n", f"looks like a pcapng capture; {READS_IT}"),
+    *((sign, "looks like a profile; --profile takes it") for sign in [b"drop", b"mask", b"[[unit", b"# "]),
 ]
 DATE = f"looks like a log whose stamps have a date; {READS_IT}"
 CSV = "looks like a CSV file; python3 -m udsnorm reads those of SavvyCAN and python-can"

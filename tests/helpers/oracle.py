@@ -17,6 +17,13 @@ from collections import Counter, namedtuple
 
 TESTER, UNIT = "tester", "unit"
 OTHER = {TESTER: UNIT, UNIT: TESTER}
+
+# Beside its own identifier a tester may have one on which it asks all units. Its frames are no part of any reception, so they
+# go through all definitions as a direction of their own, of which no message has several frames.
+FUNCTIONAL = "functional"
+OTHER[FUNCTIONAL] = UNIT
+SENDERS = {TESTER: TESTER, UNIT: UNIT, FUNCTIONAL: TESTER}
+
 SIDES = {TESTER: "7E0", UNIT: "7E8"}
 
 MESSAGE_LIMIT = 1_048_575
@@ -99,6 +106,8 @@ def trace(lines, sides=SIDES):
             digits = match["classic"] or match["whole"] or match["fd"] or b""
             data = bytes.fromhex(digits.decode())
             layout = Nothing("remote frame") if match["remote"] else layout_of(data)
+            if sender == FUNCTIONAL and not isinstance(layout, (Single, Nothing)):
+                layout = Nothing("functional frame not single")
             entries.append(Entry(number, micros, sender, layout, len(data), data))
     return entries
 
@@ -219,7 +228,7 @@ def delivered(frames, p):
 
 def messages(frames):
     """The messages of a trace with their directions, in the order in which they are completed."""
-    found = ((entry.direction, delivered(frames, p)) for p, entry in enumerate(frames))
+    found = ((SENDERS[entry.direction], delivered(frames, p)) for p, entry in enumerate(frames))
     return [(direction, message) for direction, message in found if message is not None]
 
 
@@ -499,8 +508,8 @@ def told_of(frames):
             event = {"line": entry.line, "event": "ended", **members, "cause": cause}
             told.append(Told(f"line {entry.line}: {words} ended: {cause}", event))
         if reason:
-            event = {"line": entry.line, "event": "dropped", "direction": entry.direction, **reason.members}
-            told.append(Told(f"line {entry.line}: {entry.direction} frame dropped: {reason.words}", event))
+            event = {"line": entry.line, "event": "dropped", "direction": SENDERS[entry.direction], **reason.members}
+            told.append(Told(f"line {entry.line}: {SENDERS[entry.direction]} frame dropped: {reason.words}", event))
     return told
 
 
@@ -513,14 +522,14 @@ def reception_told(frames, direction, p):
     )
 
 
-def explanation(lines):
+def explanation(lines, sides=SIDES):
     """What is told of a log of these lines: of its frames, of the receptions that its end leaves, and how many of each
     there are."""
-    frames = trace(lines)
+    frames = trace(lines, sides)
     end = len(frames)
     unfinished = [reception_told(frames, direction, end) for direction in (TESTER, UNIT) if reception(frames, direction, end)]
     told = [Told(f"end: {words} unfinished", {"event": "unfinished", **members}) for words, members in unfinished]
-    counts = counts_of(lines)
+    counts = counts_of(lines, sides)
     words = " ".join(f"{name} {count}" for name, count in counts.items())
     return [*told_of(frames), *told, Told(words, {"event": "counts", **counts})]
 
@@ -545,7 +554,7 @@ def counts_of(lines, sides=SIDES):
 def unclean(log, sides=SIDES):
     """What is told of a log that is not clean, and nothing of one that is."""
     counts = counts_of(cut(log), sides)
-    senders = [entry.direction for entry in trace(cut(log), sides)]
+    senders = [SENDERS[entry.direction] for entry in trace(cut(log), sides)]
     lacking = [f"frame of the {side}" for side in (TESTER, UNIT) if side not in senders]
     lacking += ["line feed at the end"] if log and not log.endswith(b"\n") else []
     if lacking or counts["dropped"] + counts["ended"] + counts["unfinished"]:
@@ -601,7 +610,8 @@ def places(frames):
         start, stop, spelled = stamp(first.micros), stamp(last.micros), digits(message)
         words = f"{number} {role} {direction} lines {first.line} to {last.line} at {start} to {stop} {spelled}"
         members = {"item": number, "role": role, "direction": direction, "first_line": first.line, "last_line": last.line}
-        told.append(Told(words, {**members, "start": start, "end": stop, "message": spelled}))
+        mark = {"functional": True} if last.direction == FUNCTIONAL else {}
+        told.append(Told(words, {**members, "start": start, "end": stop, **mark, "message": spelled}))
     return told
 
 
@@ -638,15 +648,28 @@ Said = namedtuple("Said", "identifier answers service")
 LARGEST_IDENTIFIER = 0x1FFFFFFF
 
 
-def said_in(lines):
-    """What the frames of these lines say of services, whatever their identifiers: each that asks for one or answers it."""
+def frames_in(lines):
+    """Each identifier of these lines that a bus carries, with its frames."""
     matches = [LINE.fullmatch(without_return(line)) for line in lines]
     for identifier in sorted({match["identifier"].upper() for match in matches if match}):
         if int(identifier, 16) <= LARGEST_IDENTIFIER:
-            for entry in trace(lines, {TESTER: identifier.decode()}):
-                message = begun_in(entry)
-                if message:
-                    yield entry.line, Said(identifier.decode(), *message)
+            yield identifier.decode(), trace(lines, {TESTER: identifier.decode()})
+
+
+def said_in(lines):
+    """What the frames of these lines say of services, whatever their identifiers: each that asks for one or answers it."""
+    for identifier, entries in frames_in(lines):
+        for entry in entries:
+            message = begun_in(entry)
+            if message:
+                yield entry.line, Said(identifier, *message)
+
+
+def functional_in(lines):
+    """The identifiers for functional requests that send a single frame, by their texts."""
+    for identifier, entries in frames_in(lines):
+        if re.fullmatch("7DF|18DB....", identifier) and any(isinstance(entry.layout, Single) for entry in entries):
+            yield identifier
 
 
 def begun_in(entry):
@@ -679,44 +702,53 @@ def partner_of(unit):
     return f"18DA{fixed[2]}{fixed[1]}" if fixed and fixed[1] != fixed[2] else None
 
 
-def is_functional(identifier):
-    return re.fullmatch("7DF|18DB....", identifier) is not None
+Line = namedtuple("Line", "credits tester unit requests functional")
 
 
 def pairs_in(lines):
-    """Each unit that has a credit, with its tester, that one's credits of it, and its requests, in the order in which they are
-    told."""
+    """The line of each unit that has a credit, with its tester, that one's credits of it, its requests, and a functional identifier
+    of as many digits that is neither, in the order in which they are told."""
     said = [each for _, each in sorted(said_in(lines))]
     credits = Counter(credited(said))
     requests = Counter(each.identifier for each in said if not each.answers)
-    testers = {unit: tester_of(unit, credits, requests) for _, unit in credits}
-    return sorted((-credits[tester, unit], tester, unit, requests[tester]) for unit, tester in testers.items())
+    functional = list(functional_in(lines))
+    testers = {unit: tester_of(unit, credits, requests, functional) for _, unit in credits}
+    told = sorted((-credits[tester, unit], tester, unit) for unit, tester in testers.items())
+    return [Line(-less, tester, unit, requests[tester], beside(tester, unit, functional)) for less, tester, unit in told]
 
 
-def tester_of(unit, credits, requests):
+def tester_of(unit, credits, requests, functional):
     """A unit's partner, where that asks; or else who has credits of it: rather one that isn't functional, with the most."""
     if partner_of(unit) in requests:
         return partner_of(unit)
-    return min((is_functional(tester), -number, tester) for (tester, one), number in credits.items() if one == unit)[-1]
+    return min((tester in functional, -number, tester) for (tester, one), number in credits.items() if one == unit)[-1]
+
+
+def beside(tester, unit, functional):
+    """The first functional identifier of as many digits that is neither; None where there is none."""
+    return next((each for each in functional if len(each) == len(unit) and each not in (tester, unit)), None)
 
 
 def pairs_text(pairs):
-    return "".join(f"{-credits} --tester {tester} --unit {unit}\n" for credits, tester, unit, _ in pairs)
+    return "".join(
+        f"{line.credits} --tester {line.tester} --unit {line.unit}{f' --functional {line.functional}' if line.functional else ''}\n"
+        for line in pairs
+    )
 
 
 def pairs_objects(pairs):
-    return "".join(
-        json.dumps({"credits": -credits, "requests": requests, "tester": tester, "unit": unit}, separators=(",", ":")) + "\n"
-        for credits, tester, unit, requests in pairs
-    )
+    keys = ["credits", "requests", "tester", "unit", "functional"]
+    objects = [{key: getattr(line, key) for key in keys if getattr(line, key) is not None} for line in pairs]
+    return "".join(json.dumps(each, separators=(",", ":")) + "\n" for each in objects)
 
 
 def pairs_profile(pairs):
     """The first 64 pairs as the units of a profile."""
     units = [
-        f"# {-credits} of {requests} requests answered\n[[unit]]\n"
-        f'name = "{tester}-{unit}"\ntester = "{tester}"\nunit = "{unit}"\n'
-        for credits, tester, unit, requests in pairs[:64]
+        f"# {line.credits} of {line.requests} requests answered\n[[unit]]\n"
+        f'name = "{line.tester}-{line.unit}"\ntester = "{line.tester}"\nunit = "{line.unit}"\n'
+        + (f'functional = "{line.functional}"\n' if line.functional else "")
+        for line in pairs[:64]
     ]
     return "\n".join(units) or "# nobody answered\n"
 
@@ -768,26 +800,26 @@ def outcome(log, limit=GIBIBYTE, sides=SIDES):
     return Outcome(DONE, None, "".join(text).encode())
 
 
-def listed(log, limit=GIBIBYTE, write=list_text):
+def listed(log, limit=GIBIBYTE, write=list_text, sides=SIDES):
     """The list of a log, which is accepted and refused as its canonical log is. Nothing is written of a refused log."""
-    came = outcome(log, limit)
-    return Outcome(came.status, came.fault, write(items_of(cut(log))).encode() if came.status == DONE else b"")
+    came = outcome(log, limit, sides)
+    return Outcome(came.status, came.fault, write(items_of(cut(log), sides)).encode() if came.status == DONE else b"")
 
 
-def watched(log, limit=GIBIBYTE, write=list_text):
+def watched(log, limit=GIBIBYTE, write=list_text, sides=SIDES):
     """The list of a log, however long its canonical log is; where it is refused, that of what its lines before decide."""
     refused = refusal(log, limit, is_long_refused=False)
     if refused:
-        return Outcome(REFUSED, refused.fault, write(decided(messages(trace(refused.lines)))).encode())
-    return Outcome(DONE, None, write(items_of(cut(log))).encode())
+        return Outcome(REFUSED, refused.fault, write(decided(messages(trace(refused.lines, sides)))).encode())
+    return Outcome(DONE, None, write(items_of(cut(log), sides)).encode())
 
 
-def explained(log, limit=GIBIBYTE, write=in_words):
+def explained(log, limit=GIBIBYTE, write=in_words, sides=SIDES):
     """The explanation of a log; where it is refused, that of its frames before the fault."""
     refused = refusal(log, limit, is_long_refused=False)
     if refused:
-        return Outcome(REFUSED, refused.fault, write(told_of(trace(refused.lines))).encode())
-    return Outcome(DONE, None, write(explanation(cut(log))).encode())
+        return Outcome(REFUSED, refused.fault, write(told_of(trace(refused.lines, sides))).encode())
+    return Outcome(DONE, None, write(explanation(cut(log), sides)).encode())
 
 
 def placed(log, limit=GIBIBYTE, sides=SIDES, write=in_words):

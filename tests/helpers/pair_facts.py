@@ -56,7 +56,8 @@ def came_of(left, right, limit=oracle.GIBIBYTE, sides=oracle.SIDES, is_strict=Fa
     for letter, side, log in (("A", "left", left), ("B", "right", right)):
         refused = oracle.refusal(log, limit, is_long_refused=False)
         if refused:
-            return Came(oracle.REFUSED, f"{side}: {refused.fault}", None, letter, None, None, None)
+            uncounted = [report_reader.Rule(profiles.told_rule(rule), ()) for rule in rules]
+            return Came(oracle.REFUSED, f"{side}: {refused.fault}", None, letter, None, None, None, rules=uncounted)
     frames = [oracle.trace(oracle.cut(log), sides) for log in (left, right)]
     sessions = [profiles.under(rules, oracle.messages(trace)) for trace in frames]
     items = [oracle.meaning(session) for session in sessions]
@@ -415,7 +416,7 @@ def same_line_of(came):
     """The sentence below the heading of two sessions that are the same, if they have an item."""
     count = len(came.items[0])
     words = "One item is equal in both, byte for byte." if count == 1 else f"Each of the {count} items is equal in both, byte for byte."
-    return ("Of what the rules leave: " if came.rules else "") + words
+    return f"Of what the rules leave, {words[0].lower()}{words[1:]}" if came.rules else words
 
 
 # --- In words -----------------------------------------------------------------------------------------------------------

@@ -37,7 +37,8 @@ def told_otherwise(page, came):
     if came.refused:
         fault = came.fault.split(": ", 1)[1]
         text = f"{came.refused} is refused, so nothing is compared</h2>\n<p><em>{fault}.</em>"
-        return ([] if text in page else [f"{text!r} is not there"]) + (["a refused log has rows"] if "<tr" in page else [])
+        wrong = ([] if text in page else [f"{text!r} is not there"]) + (["a refused log has rows"] if "<tr" in page else [])
+        return wrong + rule_faults(pair_reader.rules_above(page), came)
     read, rows = pair_reader.read(page), pair_facts.rows_of(*came.items)
     changes = pair_facts.changes_of(rows)
     return [
@@ -59,7 +60,12 @@ def verdict_faults(read, came):
         wrong.append(f"the heading is {read.heading!r}, not {pair_facts.same_heading_of(came)!r}")
     if came.items[0] == came.items[1] != [] and read.same_line != pair_facts.same_line_of(came):
         wrong.append(f"below the heading stands {read.same_line!r}, not {pair_facts.same_line_of(came)!r}")
-    return wrong + ([] if read.rules == came.rules else [f"the rules are {read.rules}, not {came.rules}"])
+    return wrong + rule_faults(read.rules, came)
+
+
+def rule_faults(rules, came):
+    """Whether these rules stand above the verdict, with their counts where something is compared."""
+    return [] if rules == came.rules else [f"the rules are {rules}, not {came.rules}"]
 
 
 def chart_faults(read, came):

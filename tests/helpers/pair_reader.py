@@ -202,6 +202,12 @@ def chart_of(text):
     return Chart(rows, int(end[1] or 0), int(end[2] or 0), bool(end[3]))
 
 
+def rules_above(page):
+    """The rules that stand above the verdict of a page."""
+    rules = report_reader.RULES.search(page[: page.index('<section id="verdict"')])
+    return report_reader.rules_of(rules and rules[0], set())
+
+
 def read(page):
     """What a page of two logs that can be read tells."""
     verdict = VERDICT.search(page)
@@ -215,9 +221,8 @@ def read(page):
     alone = ALONE.search(page)
     if not alone:
         raise ValueError("the items begin in another way")
-    rules = report_reader.RULES.search(page)
     return Page(
-        report_reader.rules_of(rules and rules[0], set()),
+        rules_above(page),
         verdict[1],
         verdict[3],
         paragraphs[0] if paragraphs else None,

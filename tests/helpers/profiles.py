@@ -8,11 +8,11 @@ import tomllib
 from collections import namedtuple
 
 import oracle
-from oracle import DIFFERENT, DONE, GIBIBYTE, REFUSED, SIDES, TESTER, UNCLEAN, UNIT, Outcome, Told
+from oracle import DIFFERENT, DONE, FUNCTIONAL, GIBIBYTE, REFUSED, SIDES, TESTER, UNCLEAN, UNIT, Outcome, Told
 
 Profile = namedtuple("Profile", "rules units")
 Rule = namedtuple("Rule", "kind text prefix places cuts")
-Unit = namedtuple("Unit", "name tester unit")
+Unit = namedtuple("Unit", "name tester unit functional", defaults=[None])
 
 
 class Wrong(Exception):
@@ -94,7 +94,7 @@ def unit_of(table, earlier):
         if key == "name":
             if not is_text(value) or not re.fullmatch(r"[A-Za-z0-9_\-]{1,32}", value):
                 raise Wrong("name: not 1 to 32 letters, digits, - and _")
-        elif key in (TESTER, UNIT):
+        elif key in (TESTER, UNIT, FUNCTIONAL):
             found = identifier_of(value) if is_text(value) else None
             if not found:
                 raise Wrong(f"{key}: not three or eight hexadecimal digits")
@@ -105,14 +105,16 @@ def unit_of(table, earlier):
     for key in ("name", TESTER, UNIT):
         if key not in table:
             raise Wrong(f"{key}: missing")
-    found = Unit(table["name"], table[TESTER].upper(), table[UNIT].upper())
+    found = Unit(table["name"], table[TESTER].upper(), table[UNIT].upper(), table[FUNCTIONAL].upper() if FUNCTIONAL in table else None)
     if found.tester == found.unit:
         raise Wrong("tester and unit have the same identifier")
+    if found.functional in (found.tester, found.unit):
+        raise Wrong("functional identifier is that of tester or unit")
     for number, other in enumerate(earlier, 1):
         if other.name == found.name:
             raise Wrong(f"name: that of unit {number}")
     for number, other in enumerate(earlier, 1):
-        if other[1:] == found[1:]:
+        if other[1:3] == found[1:3]:
             raise Wrong(f"tester and unit: those of unit {number}")
     return found
 

@@ -30,10 +30,11 @@ STANDARD_INPUT = b"standard input"
 
 # --- What the rows tell -----------------------------------------------------------------------------------------------
 
-# A message, as report_reader.py calls its kind: the frames that it begins and ends with, how many carry it, and when its request was
-# complete, if it replies to one.
-Message = namedtuple("Message", "kind side item first last frames asked data")
-NoAnswer = namedtuple("NoAnswer", "item is_silent")
+# A message, as report_reader.py calls its kind: the frames that it begins and ends with, how many carry it, when its request was
+# complete, if it replies to one, and whether it went to all units.
+Message = namedtuple("Message", "kind side item first last frames asked data is_functional")
+# An item without an answer, as report_reader.py calls the kind of its row.
+NoAnswer = namedtuple("NoAnswer", "item kind")
 # A frame that is dropped, and whether the row before is named by the same line.
 Dropped = namedtuple("Dropped", "entry reason is_named")
 # A frame that ends a message of a side, and the first frame of that.
@@ -42,6 +43,7 @@ Ended = namedtuple("Ended", "entry side begun cause")
 Unfinished = namedtuple("Unfinished", "side begun")
 
 REPLIES = ("positive", "negative")
+NONE_OF_ALL = "no answer (all units)"
 REQUEST = "request"
 
 
@@ -73,7 +75,7 @@ def messages_of(frames, rules):
     delivered = [(p, oracle.delivered(frames, p)) for p in range(len(frames))]
     made = [(p, profiles.made_of(rules, message)) for p, message in delivered if message is not None]
     ends = [p for p, message in made if message is not None]
-    listed = [(frames[p].direction, message) for p, message in made if message is not None]
+    listed = [(oracle.SENDERS[frames[p].direction], message) for p, message in made if message is not None]
     parts = oracle.parts_of(listed)
     asked = {item: frames[p].micros for p, (item, role) in zip(ends, parts) if role == REQUEST}
     return [
@@ -86,6 +88,7 @@ def messages_of(frames, rules):
             frames=frames_carrying(frames, p),
             asked=asked[item] if role in ("answer", "pending") else None,
             data=data,
+            is_functional=frames[p].direction == oracle.FUNCTIONAL,
         )
         for p, (side, data), (item, role) in zip(ends, listed, parts)
     ]
@@ -114,8 +117,10 @@ def missing_answers(messages):
 
 
 def no_answer(request):
-    outcome = oracle.answer_text(oracle.Exchange(request.data, None))
-    return NoAnswer(request.item, outcome == "silent")
+    """Silent, where the request asked for that. One to all units need not concern this one, and needs no look."""
+    if oracle.answer_text(oracle.Exchange(request.data, None)) == "silent":
+        return NoAnswer(request.item, "silent")
+    return NoAnswer(request.item, NONE_OF_ALL if request.is_functional else "no answer")
 
 
 def faults_at(frames, p):
@@ -139,9 +144,9 @@ def row_told(origin, row, is_brief=False):
         case Message():
             return message_told(origin, row, is_brief and row.kind not in LOOKS)
         case NoAnswer():
-            return Row("silent" if row.is_silent else "no answer", None, f"{row.item}", False, (), "", UNIT, False, {"to": f"{row.item}"})
+            return Row(row.kind, None, f"{row.item}", False, (), "", UNIT, False, {"to": f"{row.item}"})
         case Dropped():
-            return lost_told("dropped", target(row), at(origin, row.entry), row.entry.direction, {"reason": row.reason})
+            return lost_told("dropped", target(row), at(origin, row.entry), oracle.SENDERS[row.entry.direction], {"reason": row.reason})
         case Ended():
             return lost_told("ended", target(row), at(origin, row.entry), row.side, {**partial_told(row), "cause": row.cause})
     return lost_told("unfinished", target(row), ((), ""), row.side, partial_told(row))
@@ -151,7 +156,8 @@ def message_told(origin, row, is_brief):
     lines = (f"{row.first.line}",) if row.first.line == row.last.line else (f"{row.first.line}", f"{row.last.line}")
     begins_item = row.asked is None
     data = brief_data(row) if is_brief else {**data_told(row.data), "names": names_told(row.data)}
-    said = {**said_of_kind(row), **data, **note_told(row, is_brief)}
+    functional = {"functional": "functional"} if row.is_functional else {}
+    said = {**said_of_kind(row), **functional, **data, **note_told(row, is_brief)}
     identifier = target(row) if begins_item else None
     return Row(row.kind, identifier, f"{row.item}", begins_item, lines, seconds(origin, row.last.micros), row.side, is_brief, said)
 
@@ -294,8 +300,8 @@ MOST_LINKS = 10
 
 # All counts, as they are told. Behind the first four each is of the rows of its kind.
 COUNTS = [
-    "lines", "frames", "messages", "left out", "requests", "positive", "negative", "no answer", "silent", "pending", "keep-alive", "stray",
-    "dropped", "ended", "unfinished",
+    "lines", "frames", "messages", "left out", "requests", "positive", "negative", "no answer", NONE_OF_ALL, "silent", "pending", "keep-alive",
+    "stray", "dropped", "ended", "unfinished",
 ]
 LOSSES = ("dropped", "ended", "unfinished")
 
@@ -306,7 +312,7 @@ def row_kind(row):
         case Message():
             return "requests" if row.kind == REQUEST else row.kind
         case NoAnswer():
-            return "silent" if row.is_silent else "no answer"
+            return row.kind
     return {Dropped: "dropped", Ended: "ended", Unfinished: "unfinished"}[type(row)]
 
 
@@ -345,7 +351,7 @@ def link_words(row):
 
 
 def counts_told(counts):
-    told = [name for name in COUNTS if name != "left out" or counts[name]]
+    told = [name for name in COUNTS if name not in ("left out", NONE_OF_ALL) or counts[name]]
     return [Count(name=name, number=f"{counts[name]}", mark=count_mark(name, counts[name])) for name in told]
 
 
@@ -374,7 +380,7 @@ def state(log, frames, counts, rules):
 
 def unclean_words(log, frames, counts):
     """What is told of a log that has to be clean and is not."""
-    senders = {entry.direction for entry in frames}
+    senders = {oracle.SENDERS[entry.direction] for entry in frames}
     lacking = [f"frame of the {side}" for side in (TESTER, UNIT) if side not in senders]
     lacking += ["line feed at the end"] if is_cut(log) else []
     if not lacking and not lost(counts):

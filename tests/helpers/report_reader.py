@@ -65,28 +65,31 @@ FOLDED = (
 # Names from the standards stand in brackets.
 NAMES = r"(?P<names>(?: <i>\([A-Za-z][^<]*\)</i>)*)"
 DATA = rf"<code>(?P<shown>{BYTES})</code>(?: <samp>(?P<letters>[^<]+)</samp>|{FOLDED}| <i>(?P<hidden>\d+) bytes more, not shown</i>)?{NAMES}{NOTE}"
+# A message of the tester that went to all units.
+TO_ALL, BRIEF_TO_ALL = "(?:<i>(?P<functional>functional)</i> )?", "(?:(?P<functional>functional) )?"
 BRIEF_DATA = rf"(?P<shown>{BYTES})(?: and (?P<hidden>(?:at least )?\d+) (?:(?<= 1 )byte|(?<! 1 )bytes) more)?"
 
 # Of each kind of row how it looks, how its arrow ends, and what it says. `words` are no facts.
 Kind = namedtuple("Kind", "look end form")
 KINDS = {
-    "request": Kind("q", "", rf"<b>(?P<service>\w+)</b> <i>request</i> {DATA}"),
+    "request": Kind("q", "", rf"<b>(?P<service>\w+)</b> <i>request</i> {TO_ALL}{DATA}"),
     "positive": Kind("ok", "", rf"<b>positive</b> {DATA}"),
     "negative": Kind("n", "", rf"<b>negative</b> <em>(?P<code>\w+(?: [0-9A-F]{{2}})?)</em> {DATA}"),
     "pending": Kind("p", "", rf"<b>pending</b> {DATA}"),
-    "keep-alive": Kind("p", "", rf"<b>keep-alive</b> {DATA}"),
-    "stray": Kind("s", "", rf"<b>stray</b> <i>from the {OF}</i> {DATA}"),
+    "keep-alive": Kind("p", "", rf"<b>keep-alive</b> {TO_ALL}{DATA}"),
+    "stray": Kind("s", "", rf"<b>stray</b> <i>from the {OF}</i> {TO_ALL}{DATA}"),
     "silent": Kind("p", "e", r"<b>silent</b> <i>item (?P<to>\d+) (?P<words>[^<]+)</i>"),
     "no answer": Kind("m", "e", r"<b>no answer</b> <i>to item (?P<to>\d+)</i>"),
+    "no answer (all units)": Kind("p", "e", r"<b>no answer</b> <i>to item (?P<to>\d+), which went to all units</i>"),
     "dropped": Kind("x", "x", rf"<b>dropped</b> <i>{OF} frame:</i> <em>(?P<reason>[^<]+)</em>(?: <i>(?P<words>[^<]+)</i>)?"),
     "ended": Kind("x", "e", rf"<b>ended</b> <i>{OF} {PARTIAL}</i> <em>(?P<cause>[^<]+)</em> <i>(?P<words>[^<]+)</i>"),
     "unfinished": Kind("x", "e", rf"<b>unfinished</b> <i>{OF} {PARTIAL} (?P<words>[^<]+)</i>"),
 }
 BRIEF_KINDS = {
-    "request": Kind("q", "", rf"(?P<service>\w+) request {BRIEF_DATA} &\#8594;"),
+    "request": Kind("q", "", rf"(?P<service>\w+) request {BRIEF_TO_ALL}{BRIEF_DATA} &\#8594;"),
     "positive": Kind("ok", "", rf"&\#8592; positive {BRIEF_DATA} after (?P<after>{MILLISECONDS})"),
     "pending": Kind("p", "", rf"&\#8592; pending {BRIEF_DATA} after (?P<after>{MILLISECONDS})"),
-    "keep-alive": Kind("p", "", rf"keep-alive {BRIEF_DATA} &\#8594;"),
+    "keep-alive": Kind("p", "", rf"keep-alive {BRIEF_TO_ALL}{BRIEF_DATA} &\#8594;"),
 }
 MESSAGES = ("request", "positive", "negative", "pending", "keep-alive", "stray")
 SIDES = {"t": "tester", "u": "unit"}
@@ -140,7 +143,10 @@ TITLE = (
 RULES = re.compile(
     r'<section id="rules">\n<h2>Under (?P<count>1 rule|(?!1 )\d+ rules)</h2>\n<p>(?P<words>.*)</p>\n<ul>\n(?P<lines>(?:<li>.*\n)+)</ul>\n</section>\n'
 )
-RULE = re.compile(r"<li><code>(?P<text>[^<]+)</code>: (?P<count>\d+) (?:(?<=: 1 )message|(?<!: 1 )messages)(?: of A, (?P<other>\d+) of B)?\n")
+# A page of two logs of which one is refused counts no messages.
+RULE = re.compile(
+    r"<li><code>(?P<text>[^<]+)</code>(?:: (?P<count>\d+) (?:(?<=: 1 )message|(?<!: 1 )messages)(?: of A, (?P<other>\d+) of B)?)?\n"
+)
 
 VERDICT = re.compile(
     r'<section id="verdict" class="(?P<look>\w+)">\n<h2><span aria-hidden="true">(?P<sign>[^<]+)</span> (?P<heading>[^<]+)</h2>\n'

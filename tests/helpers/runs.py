@@ -31,8 +31,9 @@ class Ended(namedtuple("Ended", "status output error")):
 # What a run took: its most kilobytes, or none, and its status.
 Peak = namedtuple("Peak", "kilobytes status")
 
-# Bytes that the program has without a log, at most.
-PROGRAM_BYTES = 2_500_000
+# Bytes that the program has without a log, at most: all of it, with what it takes of the C library. A system that has much of both
+# in its cache maps more of them at once.
+PROGRAM_BYTES = 2_600_000
 
 PIPES = {"stdout": subprocess.PIPE, "stderr": subprocess.PIPE}
 

@@ -57,6 +57,34 @@ def names_of(message):
     return foreign + ([name + level] if name else []) + ([routine] if routine else [])
 
 
+# The bits of the status of a trouble code, and the reports of ReadDTCInformation whose response lists codes, or begins with one.
+STATUS_BITS = [table("STATUS_BITS")[bytes([bit])] for bit in range(8)]
+LISTS, BEGINS = (0x02, 0x0A, 0x0B, 0x0C, 0x0D, 0x0E, 0x15), (0x04, 0x06)
+
+
+def trouble_code(record):
+    """A trouble code of four bytes as people spell it, and the names of the bits of its status."""
+    number = int.from_bytes(record[:2])
+    names = [name for bit, name in enumerate(STATUS_BITS) if record[3] >> bit & 1]
+    return " ".join([f"{'PCBU'[number >> 14]}{number & 0x3FFF:04X}-{record[2]:02X}", *names])
+
+
+def trouble_records(message):
+    """The trouble codes of a message, each of four bytes."""
+    if message[:1] != b"\x59" or len(message) < 2:
+        return []
+    if message[1] in LISTS and len(message) > 3 and len(message) % 4 == 3:
+        return [message[place : place + 4] for place in range(3, len(message), 4)]
+    return [message[2:6]] if message[1] in BEGINS and len(message) >= 6 else []
+
+
+def trouble_codes(message):
+    """The trouble codes of a message, as a page tells them: 16 at most, and how many others there are."""
+    told = [trouble_code(record) for record in trouble_records(message)]
+    more = [f"and {len(told) - 16} more"] if len(told) > 16 else []
+    return [f"read as SAE J2012: {', '.join(told[:16] + more)}"] if told else []
+
+
 def small(message):
     """The same as a page has them."""
-    return "".join(f" <i>({name})</i>" for name in names_of(message))
+    return "".join(f" <i>({name})</i>" for name in names_of(message) + trouble_codes(message))

@@ -87,8 +87,10 @@ def placed(message):
 
 def paired(pair):
     """The object of `find` for a pair."""
-    tester, unit = (f"{side & ~EXTENDED:0{8 if side & EXTENDED else 3}X}" for side in (pair.tester, pair.unit))
-    return f'{{"credits":{pair.credits},"requests":{pair.requests},"tester":"{tester}","unit":"{unit}"}}'
+    sides = [side for side in (pair.tester, pair.unit, pair.functional) if side is not None]
+    digits = [f"{side & ~EXTENDED:0{8 if side & EXTENDED else 3}X}" for side in sides]
+    told = "".join(f',"{key}":"{text}"' for key, text in zip(("tester", "unit", "functional"), digits))
+    return f'{{"credits":{pair.credits},"requests":{pair.requests}{told}}}'
 
 
 def told_of(refused):

@@ -81,6 +81,7 @@ ROLES = {"request tester", "stray tester", "answer unit", "pending unit", "stray
 # Lines in which most stands for their length, in one way or another.
 ONE_BYTE = b"(0.000000) a 7E8#0111\n"
 LONG_NAME = b"(0.000000) a 7E8#0107\n"
+TROUBLE_CODES = b"(0.000000) a 7E8##0003B590DFF" + b"303030FF" * 13 + b"30303077000000\n"
 FOURTEEN_BYTES = b"(0.000000) a 7E8##0000E" + b"11" * 14 + b"\n"
 REQUEST = b"(0.000000) a 7E0#012C\n"
 ANSWER = b"(0.000000) a 7E8#016C\n"
@@ -107,6 +108,7 @@ HELD = Fraction(17, 22)
 MEANT = Fraction(49, 22)
 
 FOUND = Fraction(300, 44)
+FOUND_UNITS = Fraction(440, 27)
 
 # Those of the rows of a log, of which a page of two logs holds both; and beside both, while it looks for what stands beside what,
 # those of each item, at most one for 22 bytes, and those of a script.
@@ -203,21 +205,36 @@ def longest_texts(cases):
         items = "".join(map(longest.format, range(1, 10_001))).encode()
         wrong = [] if status == DONE and text.startswith(items) else [f"status {status}, {text[:100]!r}"]
         cases.report(f"{job} writes {len(text)} bytes of {len(log)}", wrong)
+    functional_texts(cases)
+
+
+def functional_texts(cases):
+    """The same of requests to all units: an object has a mark more, and canonical lines the identifier of the tester."""
+    log = REQUEST.replace(b"7E0", b"7DF") * 10_000
+    status, text, _ = cases.run(["messages", "--json", "--functional", "7DF"], log)
+    marked = LONGEST_PLACE_OBJECT.replace('"message"', '"functional":true,"message"')
+    wrong = [] if status == DONE and text == "".join(map(marked.format, range(1, 10_001))).encode() else [f"status {status}, {text[:100]!r}"]
+    cases.report(f"messages --json --functional 7DF writes {len(text)} bytes of {len(log)}", wrong)
+    log = FOURTEEN_BYTES.replace(b"7E8", b"7DF") * 10_000
+    status, text, _ = cases.run(["normalise", "--tester", "18DA10F1", "--unit", "18DAF110", "--functional", "7DF"], log)
+    wrong = [] if status == DONE and len(text) == Fraction(51, 13) * len(log) else [f"status {status}, {len(text)} bytes"]
+    cases.report(f"normalise --functional 7DF writes {len(text)} bytes of {len(log)}", wrong)
 
 
 def page_growth(cases):
-    """No lines have more of a page, for each of their bytes, than strays with the longest name: of frames of each kind alone, and
-    of two frames of which one ends what the other begins, or answers it. Numbers of as many digits stand in all."""
-    most, wrong = page_grown(cases, LONG_NAME), []
+    """No lines have more of a page, for each of their bytes, than strays with as many trouble codes as a frame holds, of which one has
+    a status that is a letter, and each other one all bits: of frames of each kind alone, and of two frames of which one ends what the
+    other begins, or answers it. Numbers of as many digits stand in all."""
+    most, wrong = page_grown(cases, TROUBLE_CODES), []
     single = [b"", b"R", b"00", b"10", b"21", b"22", b"30", b"33", b"40", b"012C", b"016C", b"022C80", b"023E80", b"300000", b"330000"]
     single += [b"0107", b"022805", b"026805", b"0322F19A", b"0362F19A"]
     frames = [b"(0.000000) a %s#%s\n" % frame for frame in itertools.product((b"7E0", b"7E8"), single)]
     begun = [frame_line("7E0", FIRST_DATA), frame_line("7E8", FIRST_DATA), REQUEST]
     pairs = [first + second for first, second in itertools.product(begun, [*frames, b"(0.000000) a 7E8#037F2C26\n", FIRST])]
-    for lines in (*frames, *pairs, FOURTEEN_BYTES, LONG_REQUEST, FIRST, FOREIGN, BLANK, LONGEST):
+    for lines in (*frames, *pairs, LONG_NAME, FOURTEEN_BYTES, LONG_REQUEST, FIRST, FOREIGN, BLANK, LONGEST):
         grown = page_grown(cases, lines)
         wrong += [f"{lines!r}: {float(grown):.2f}"] if grown > most else []
-    cases.report(f"report writes at most {float(most):.2f} bytes for each byte of {LONG_NAME!r}", wrong)
+    cases.report(f"report writes at most {float(most):.2f} bytes for each byte of {TROUBLE_CODES!r}", wrong)
 
 
 def page_grown(cases, lines):
@@ -234,7 +251,7 @@ def pair_page_growth(cases):
     single = [b"", b"00", b"10", b"21", b"30", b"40", b"012C", b"012F", b"016C", b"026C26", b"022C80", b"023E80", b"037F3178", b"300000"]
     single += [b"0107", b"022805", b"0322F19A"]
     frames = [b"(0.000000) a %s#%s\n" % frame for frame in itertools.product((b"7E0", b"7E8"), single)]
-    more = [REQUEST + ANSWER, FIRST + REQUEST, FOURTEEN_BYTES, FIRST, FOREIGN, LONGEST]
+    more = [REQUEST + ANSWER, FIRST + REQUEST, TROUBLE_CODES, FOURTEEN_BYTES, FIRST, FOREIGN, LONGEST]
     for lines, other in itertools.product((*frames, *more), (b"", ONE_BYTE, SHORT_FIRST, REQUEST)):
         grown = pair_page_grown(cases, lines, other)
         wrong += [f"{lines!r} beside {other!r}: {float(grown):.2f}"] if grown > ROW_OF_ONE else []
@@ -405,6 +422,8 @@ def memory_of_logs(cases):
     watched_requests(cases)
     pairs = many_pairs(MEASURED)
     holds_at_most(cases, ["find"], "pairs of identifiers, each with one answer", pairs, FOUND * len(pairs), DONE)
+    units = many_units(MEASURED)
+    holds_at_most(cases, ["find"], "one functional request, answered by many units", units, FOUND_UNITS * len(units), DONE)
     answered = (REQUEST + ANSWER) * (MEASURED // len(REQUEST + ANSWER))
     holds_at_most(cases, ["find"], "one pair with many answers", answered, 0, DONE)
     for job in commands.over_one_log(cases.program):
@@ -465,6 +484,12 @@ def many_pairs(size):
     sides = ((tester, unit) for tester in range(0x800) for unit in range(0x800) if tester != unit)
     pairs = (b"(0.000000) a %03X#0101\n(0.000000) a %03X#0141\n" % pair for pair in sides)
     return b"".join(itertools.islice(pairs, size // 44))
+
+
+def many_units(size):
+    """A functional request, and an answer by each of as many units as there is room for: 27 bytes for one."""
+    answers = (b"(0.000000) a %08X#0141\n" % unit for unit in range(size // 27))
+    return b"(0.000000) a 18DB33F1#0101\n" + b"".join(answers)
 
 
 def watched_requests(cases):

@@ -66,10 +66,10 @@ two_are_aligned 18     14    21      -
 JOB_GROWTHS = """
                                                        normalise  list  watch  explain  messages  find  report  compare   pages
 both-directions                                                3     5      5        3         3     5       3      5+4    6+32
-candump-any                                                    0     2      2        0         0     5       0      2+4    3+30
+candump-any                                                    0     2      2        0         0     6       0      2+4    3+30
 candump-fd                                                     1     3      4        1         1     5       1      3+4    5+15
 candump-marks                                                  2     4      4        2         2     5       2      4+4    5+14
-extended-identifiers                                           0     2      1        0         0     5       0      2+4    3+27
+extended-identifiers                                           0     2      1        0         0     6       0      2+4    3+27
 extended-identifiers --tester 18DA10F1 --unit 18DAF110         2     4      4        2         2     -       2      4+4    5+13
 first                                                          0     2      1        0         0     1       0      2+4    3+20
 lost-frame                                                     2     4      4        2         2     5       2      4+4    6+14

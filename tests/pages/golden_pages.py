@@ -36,6 +36,8 @@ PAGES = {
     "refused": [],
     "refused_at_once": [],
     "refused_by_limit": ["--limit", "76"],
+    "trouble_codes": [],
+    "functional": ["--functional", "7DF"],
     "ruled": ["--profile", str(GOLDEN / "ruled.toml")],
     "ruled_unanswered": ["--profile", str(GOLDEN / "ruled.toml")],
     "ruled_exchanged": ["--tester", "7E8", "--unit", "7E0", "--profile", str(GOLDEN / "ruled.toml")],

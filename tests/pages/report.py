@@ -155,10 +155,23 @@ FAULTS_UNDER_RULES = [
     ("that none is left out", re.compile(r"<div[^>]*><dt>left out</dt>.*\n"), ""),
 ]
 
+# Faults of a page of golden/trouble_codes.log.
+FAULTS_OF_CODES = [
+    ("a code of another system", "P0123-45", "B0123-45"),
+    ("another failure type", "U0100-87", "U0100-86"),
+    ("a bit of a status less", "P0123-45 testFailed confirmedDTC", "P0123-45 testFailed"),
+    ("a bit of a status more", "(read as SAE J2012: U0100-87)", "(read as SAE J2012: U0100-87 testFailed)"),
+    ("a code less", ", U0100-87 confirmedDTC testFailedSinceLastClear", ""),
+    ("how many codes are not shown", ", and 1 more)", ", and 2 more)"),
+    ("codes that are not said to be read so", "(read as SAE J2012: P0123", "(P0123"),
+    ("a code where the length fits none", "<i>(reportSupportedDTC)</i>", "<i>(reportSupportedDTC)</i> <i>(read as SAE J2012: P0123-45)</i>"),
+]
+
 
 def faults(cases):
-    """The reader finds each fault of a page without rules, and of one under rules."""
+    """The reader finds each fault of a page without rules, of one under rules, and of one with trouble codes."""
     planted(cases, "clean", FAULTS)
+    planted(cases, "trouble_codes", FAULTS_OF_CODES)
     planted(cases, "ruled", FAULTS_UNDER_RULES)
 
 
@@ -196,7 +209,8 @@ def places_of_bytes(page):
 
 def pages(cases):
     """Each log has its page, of which the rows alone tell the texts of the other jobs."""
-    for name, log, sides in itertools.chain(sample_logs(), table_logs(), exchanged_logs(), made_logs(), some_random_logs()):
+    logs = itertools.chain(sample_logs(), table_logs(), exchanged_logs(), made_logs(), some_random_logs(), functional_logs())
+    for name, log, sides in logs:
         wrong = page_faults(cases, log, sides)
         cases.report(name, wrong + ([f"the log {log!r}"] if wrong and len(log) < 2000 else []))
 
@@ -212,7 +226,7 @@ def pages_under_rules(cases):
 
 
 def page_faults(cases, log, sides, profile=()):
-    options = [*(word for side in (TESTER, UNIT) for word in (f"--{side}", sides[side])), *profile]
+    options = [*(word for side, identifier in sides.items() for word in (f"--{side}", identifier)), *profile]
     found = cases.run(["report", *options], log)
     wrong = page_differences(found, report_facts.reported(log, sides=sides, rules=rules_in(profile))) + text_faults(found.output)
     try:
@@ -370,6 +384,26 @@ def made_logs():
         *block_logs(),
     ]:
         yield name, log, oracle.SIDES
+
+
+def functional_logs():
+    """Logs with requests to all units: answered or not, beside a missing answer, and in blocks that are folded at first."""
+    sides = {**oracle.SIDES, oracle.FUNCTIONAL: "7DF"}
+    for name, frames in [
+        ("answered", ["7DF#023E00", "7E8#027E00"]),
+        ("refused", ["7DF#0210FF", "7E8#037F1012"]),
+        ("without an answer", ["7DF#023E00"]),
+        ("silent, as it asks", ["7DF#021083"]),
+        ("a keep-alive of no exchange", ["7DF#023E80"]),
+        ("a stray", ["7DF#0162"]),
+        ("without an answer, and then one to the unit alone", ["7DF#023E00", REQUEST]),
+        ("one to the unit alone without an answer, and then one to all", [REQUEST, "7DF#023E00", REQUEST, ANSWER]),
+        ("inside a reception", [FIRST, "7DF#023E00", OUT_OF_ORDER]),
+        ("frames of several, dropped", ["7DF#300000", "7DF#100A22F190414243", "7DF#2144454647", UNKNOWN.replace("7E8", "7DF")]),
+        ("one of CAN FD", ["7DF##000093E8011223344556677"]),
+        ("in folded blocks", 1200 * ["7DF#023E00", "7E8#027E00"] + 30 * ["7DF#023E80", "7DF#021003"]),
+    ]:
+        yield f"to all units: {name}", log_of(*frames), sides
 
 
 def log_of_messages(*messages):

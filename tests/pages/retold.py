@@ -56,7 +56,7 @@ def tell_item(row, items, outcomes):
             outcomes[row.item] = f"negative {code_listed(said['code'])} {digits}"
         case "silent":
             outcomes[said["to"]] = "silent"
-        case "no answer":
+        case "no answer" | "no answer (all units)":
             outcomes[said["to"]] = "unanswered"
 
 
@@ -106,4 +106,5 @@ def counts_of_rows(rows):
 def counts_in(counts):
     """The same, as the page counts it: a message that rules leave out has no row."""
     counted = {count.name: int(count.number) for count in counts if count.name not in ("lines", "frames")}
-    return counted | {"messages": counted["messages"] - counted.pop("left out", 0)}
+    left_out = counted.pop("left out", 0)
+    return {"no answer (all units)": 0, **counted, "messages": counted["messages"] - left_out}

@@ -296,6 +296,37 @@ def exchanged(cases, folder):
         hinted(cases, f"{job} with exchanged sides in one", [job, *swapped, "requests.log", "short.log"], folder, 1, told.format("short.log", " short.log"))
 
 
+def profiles(cases, folder):
+    """A hint under a profile: one that can't be read, sides that look exchanged, and two logs of which the rules leave nothing."""
+    for name, text in [
+        ("rules.toml", 'drop = ["3E", "7E"]\n'),
+        ("two words.toml", 'drop = ["3E", "7E"]\n'),
+        ("swapped.toml", '[[unit]]\nname = "engine"\ntester = "7E8"\nunit = "7E0"\n'),
+        ("all.toml", 'drop = ["22", "62"]\n'),
+        ("requests.toml", 'drop = ["22"]\n'),
+    ]:
+        Path(folder, name).write_text(text)
+    for given in [["list", "--profile", "none.toml", "mine.log"], ["compare", "--profile=none.toml", "mine.log", "none.log"]]:
+        hinted(cases, shlex.join(given), given, folder, DEVICE, "there is no file none.toml")
+    hinted(cases, "a profile that is a folder", ["list", "--profile", "logs", "mine.log"], folder, DEVICE, "logs is a folder")
+    hinted(cases, "a profile that is a dash", ["list", "--profile=-", "mine.log"], folder, DEVICE, "there is no file -")
+    swapped = ["--tester", "7E8", "--unit", "7E0"]
+    told = "tester and unit look exchanged in short.log: "
+    for name, shown in [("rules.toml", "rules.toml"), ("two words.toml", "$'two words.toml'")]:
+        command = f"udsnorm list --profile={shown} --tester 7E0 --unit 7E8 short.log"
+        hinted(cases, f"exchanged sides beside {name}", ["list", "--profile", name, *swapped, "short.log"], folder, 0, told + command)
+        done = subprocess.run(["bash", "-c", command.replace("udsnorm", str(cases.program), 1)], cwd=folder, stdout=subprocess.PIPE, timeout=60)
+        want = cases.run(["list", "short.log"], cwd=folder).output
+        cases.report(f"what the hint says beside {name}", [] if (done.returncode, done.stdout) == (0, want) and want else [f"{done}"])
+    in_profile = 'write tester = "7E0" and unit = "7E8" in swapped.toml'
+    for given in [["list", "--profile", "swapped.toml", "short.log"], ["messages", "--only", "engine", "--profile=swapped.toml", "short.log"]]:
+        hinted(cases, f"exchanged sides of {shlex.join(given)}", given, folder, 0, told + in_profile)
+    for job in ["compare", "diff", "report"]:
+        hinted(cases, f"{job} of what rules leave out", [job, "--profile", "all.toml", "mine.log", "whole.log"], folder, 0, "the rules leave nothing of either log")
+        hinted(cases, f"{job} of what rules leave", [job, "--profile", "requests.toml", "mine.log", "whole.log"], folder, 0, None)
+        hinted(cases, f"{job} without rules", [job, "mine.log", "whole.log"], folder, 0, None)
+
+
 def looks(cases, folder):
     """What a log looks like that is refused in its first line."""
     lines = VIN.read_bytes()
@@ -307,6 +338,7 @@ def looks(cases, folder):
     mark = "begins with a byte order mark, which an editor has put in front; save it without"
     letters = "looks like a text in UTF-16; iconv -f UTF-16 -t ASCII makes a log of one"
     asc = f"looks like a Vector ASC file; {reads_it}"
+    profile = "looks like a profile; --profile takes it"
     csv = "looks like a CSV file; python3 -m udsnorm reads those of SavvyCAN and python-can"
     pcap, pcapng = (f"looks like a {form} capture; {reads_it}" for form in ["pcap", "pcapng"])
     measured, trace = f"looks like an MF4 file; {reads_it}", f"looks like a PCAN TRC file; {reads_it}"
@@ -328,6 +360,11 @@ def looks(cases, folder):
         ("nanos.pcap", bytes.fromhex("4D3CB2A1020004000000000000000000"), pcap),
         ("bignanos.pcap", bytes.fromhex("A1B23C4D000200040000000000000000"), pcap),
         ("session.pcapng", bytes.fromhex("0A0D0D0A1C0000004D3C2B1A01000000"), pcapng),
+        ("drops.toml", b'drop = ["3E", "7E"]\n', profile),
+        ("masks.toml", b'mask = ["67??*"]\n', profile),
+        ("units.toml", b'[[unit]]\nname = "engine"\n', profile),
+        ("remark.toml", b"# What this bench leaves out.\n", profile),
+        ("other.toml", b"#drop\n", None),
         ("mark.log", b"\xef\xbb\xbf" + lines, mark),
         ("little.log", b"\xff\xfe" + lines.decode().encode("utf-16-le"), letters),
         ("big.log", b"\xfe\xff" + lines.decode().encode("utf-16-be"), letters),
@@ -412,7 +449,7 @@ def main():
         sys.exit(__doc__)
     cases = Cases(os.path.abspath(sys.argv[1]), sys.argv[2:])
     with tempfile.TemporaryDirectory() as folder:
-        cases.each([files, denied, limits, names, words, values, awaited, pairs, foreign, exchanged, looks, compressed, cut, drops, silent], folder)
+        cases.each([files, denied, limits, names, words, values, awaited, pairs, foreign, exchanged, profiles, looks, compressed, cut, drops, silent], folder)
     cases.end()
 
 

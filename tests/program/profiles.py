@@ -287,8 +287,8 @@ def found_units(cases):
     for name, log in logs:
         text = cases.run(["find", "--toml"], log).output
         lines = cases.run(["find"], log).output.decode().splitlines()[:64]
-        pairs = [(line.split(" ")[2], line.split(" ")[4]) for line in lines]
-        told = profiles.Profile([], [profiles.Unit(f"{tester}-{unit}", tester, unit) for tester, unit in pairs])
+        sides = [line.split(" ")[2::2] for line in lines]
+        told = profiles.Profile([], [profiles.Unit(f"{tester}-{unit}", tester, unit, *functional) for tester, unit, *functional in sides])
         cases.report(f"units of {name}", [] if profiles.read(text) == told else [f"{profiles.read(text)} and not {told}"])
         only = ["--only", told.units[-1].name] if told.units else []
         cases.case(f"units of {name}, taken", cases.run(["list", *written(text), *only], b""), DONE)

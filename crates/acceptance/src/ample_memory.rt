@@ -2,7 +2,7 @@
 
 use crate::rows::frame_of;
 use direction::Dir::{self, Tester, Unit};
-use isotp_receive::{Pair, Verdict};
+use isotp_receive::{Channel, Pair, Verdict};
 use std::test::Fail;
 use uds_exchange::{MessageSink, Orderer, Pairing};
 
@@ -83,10 +83,12 @@ fn thousands_of_frames_are_received(rt: HostRuntime) -> Result<(), Fail> {
     let first = frame_of(alloc, "7E8#100862F190414243")?;
     let last = frame_of(alloc, "7E8#214445")?;
     for _ in 0..2 * MANY {
-        if pair.accept(1, 0, Unit, &first)?.verdict == Verdict::Began {
+        if pair.accept(1, 0, Channel::Unit, &first)?.verdict == Verdict::Began {
             begun = begun.saturating_add(1);
         }
-        if pair.accept(1, 0, Unit, &last)?.verdict == Verdict::Message(b"\x62\xF1\x90ABCDE") {
+        if pair.accept(1, 0, Channel::Unit, &last)?.verdict
+            == Verdict::Message(b"\x62\xF1\x90ABCDE")
+        {
             finished = finished.saturating_add(1);
         }
     }

@@ -2,11 +2,13 @@
 
 use crate::rows::{assert_marked, frame_of, lines_of, rows_of};
 use std::alloc::Global;
+use std::process::Abort;
 use std::str;
 use std::test::Fail;
 use uds_find::{CreditLine, Finder};
 
-/// Frames in turn, and the units that have a credit then: the number, that of its tester's requests, this, the unit.
+/// Frames in turn, and the units that have a credit then: the number, that of its tester's requests, this, the unit, and the
+/// functional identifier.
 const LOGS: &str = "\
 no frame
 
@@ -151,7 +153,7 @@ frame 18DAF110#0462F19041
 frame 18DB33F1#0322F190
 frame 18DAF110#0462F19041
 frame 18DAF128#0462F19041
-pair 1 1 18DA10F1 18DAF110
+pair 1 1 18DA10F1 18DAF110 18DB33F1
 pair 1 1 18DB33F1 18DAF128
 
 an identifier of both addresses alike is no partner of itself
@@ -167,7 +169,7 @@ frame 7DF#0322F190
 frame 123#0462F19041
 frame 6F0#0322F190
 frame 123#0462F19041
-pair 1 1 6F0 123
+pair 1 1 6F0 123 7DF
 
 of two that are functional the one with most credits
 frame 7DF#0322F190
@@ -176,7 +178,7 @@ frame 18DB33F1#0322F190
 frame 123#0462F19041
 frame 18DB33F1#0322F190
 frame 123#0462F19041
-pair 2 2 18DB33F1 123
+pair 2 2 18DB33F1 123 7DF
 
 the most credits, and then the first by its text
 frame 6F1#0322F190
@@ -215,9 +217,14 @@ pair 2 2 6F1 123
 
 #[test]
 fn answers_are_credited(rt: HostRuntime) -> Result<(), Fail> {
-    for row in rows_of(LOGS) {
-        let found = pairs_of(rt.alloc(), row)?;
-        assert_marked(&rt, rt.alloc(), row, "pair", found.as_str())?;
+    assert_credited(&rt, rt.alloc(), LOGS)
+}
+
+/// The frames of each row have the units that stand there.
+pub(crate) fn assert_credited(rt: &impl Abort, alloc: Global, rows: &str) -> Result<(), Fail> {
+    for row in rows_of(rows) {
+        let found = pairs_of(alloc, row)?;
+        assert_marked(rt, alloc, row, "pair", found.as_str())?;
     }
     Ok(())
 }
@@ -239,8 +246,13 @@ fn lines_told(alloc: Global, lines: Vec<CreditLine>) -> Result<String, Fail> {
     for line in &lines {
         let tester = str::from_utf8(line.tester.as_slice())?;
         let unit = str::from_utf8(line.unit.as_slice())?;
-        let told = format!(in alloc; "{} {} {tester} {unit}\n", line.credits, line.requests)?;
+        let told = format!(in alloc; "{} {} {tester} {unit}", line.credits, line.requests)?;
         text.push_str(told.as_str())?;
+        if let Some(functional) = &line.functional {
+            text.push_str(" ")?;
+            text.push_str(str::from_utf8(functional.as_slice())?)?;
+        }
+        text.push_str("\n")?;
     }
     Ok(text)
 }

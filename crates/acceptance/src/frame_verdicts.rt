@@ -2,7 +2,7 @@
 
 use crate::rows::{assert_marked, digits_of, frame_of, lines_of, number_of, rows_of, shown};
 use direction::Dir::{self, Tester, Unit};
-use isotp_receive::{Ended, Pair, Verdict};
+use isotp_receive::{Channel, Ended, Pair, Verdict};
 use std::alloc::{AllocError, Global};
 use std::process::Abort;
 use std::test::Fail;
@@ -224,9 +224,68 @@ event Began
 open Unit, line 1, 20 bytes
 ";
 
+/// The same of frames to all units: they touch no reception.
+const TO_ALL: &str = "\
+a message to all inside one of the unit
+frame 10000000 7E8#101462F190574241
+event Began
+frame 10000001 7E0#300000
+event Flow
+frame 10400000 7DF#023E80
+event Message 3E80
+frame 10900000 7E8#2133413543353045
+event Stored
+frame 11900000 7E8#2246313233343536
+event Message 62F1905742413341354335304546313233343536
+
+inside one of the tester
+frame 0 7E0#100A2EF190414243
+event Began
+frame 1000 7DF#023E80
+event Message 3E80
+frame 2000 7E0#2144454647
+event Message 2EF19041424344454647
+
+it moves no deadline
+frame 0 7E0#100A2EF190414243
+event Began
+frame 900000 7DF#023E80
+event Message 3E80
+frame 1000001 7E0#2144454647
+event ends Tester, line 1, 10 bytes, Late: Dropped(NextLate)
+
+flow control to all is for nobody
+frame 0 7E8#100862F190414243
+event Began
+frame 900000 7DF#300000
+event Dropped(FunctionalNotSingle)
+frame 1000001 7E8#214445
+event ends Unit, line 1, 8 bytes, Late: Dropped(NextLate)
+
+a first frame begins nothing, however much it announces
+frame 0 7DF#1000001000004142
+event Dropped(FunctionalNotSingle)
+frame 1 7DF#100A2EF190414243
+event Dropped(FunctionalNotSingle)
+frame 2 7DF#2144454647
+event Dropped(FunctionalNotSingle)
+
+overflow to all ends nothing
+frame 0 7E8#100862F190414243
+event Began
+frame 1 7DF#320000
+event Dropped(FunctionalNotSingle)
+frame 2 7E8#214445
+event Message 62F1904142434445
+
+a fault of layout is told first
+frame 0 7DF#3000
+event Dropped(Pdu(FlowShort))
+";
+
 #[test]
 fn each_frame_does_what_its_row_says(rt: HostRuntime) -> Result<(), Fail> {
-    for table in [TIMES, REASONS, ENDS] {
+    for table in [TIMES, REASONS, ENDS, TO_ALL] {
         for row in rows_of(table) {
             follow(&rt, rt.alloc(), row)?;
         }
@@ -253,7 +312,7 @@ fn follow(rt: &impl Abort, alloc: Global, row: &str) -> Result<(), Fail> {
     Ok(())
 }
 
-/// Tells what a frame does, of the tester 7E0 or of the unit, after its microseconds.
+/// Tells what a frame does, of the tester 7E0, to all units on 7DF, or of the unit, after its microseconds.
 fn push_event(
     alloc: Global,
     text: &mut String,
@@ -262,13 +321,15 @@ fn push_event(
     frame: &str,
 ) -> Result<(), Fail> {
     let (micros, frame) = frame.split_once(' ').ok_or("no time")?;
-    let dir = if frame.starts_with("7E0") {
-        Tester
+    let channel = if frame.starts_with("7E0") {
+        Channel::Tester
+    } else if frame.starts_with("7DF") {
+        Channel::Functional
     } else {
-        Unit
+        Channel::Unit
     };
     let (micros, frame) = (number_of(micros)?, frame_of(alloc, frame)?);
-    let event = pair.accept(line, micros, dir, &frame)?;
+    let event = pair.accept(line, micros, channel, &frame)?;
     if let Some(ended) = event.ended {
         push_ended(alloc, text, ended)?;
     }

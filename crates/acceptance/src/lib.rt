@@ -2,8 +2,8 @@
 //!
 //! Each crate below is proved by itself, without a test: the gate would prove it again with them. That its definitions say
 //! what was meant is shown here, layer by layer, by worked values: `log_lines`, `device_calls`, `frame_layouts`,
-//! `frame_verdicts`, `message_frames`, `message_kinds`, `standard_names`, `profiles`, `pairings`, `credited_answers`,
-//! `session_rows`.
+//! `frame_verdicts`, `message_frames`, `message_kinds`, `standard_names`, `profiles`, `echoes`, `pairings`, `slow_rows`,
+//! `credited_answers`, `functional_identifiers`, `session_rows`.
 //!
 //! `message_frames` also tries the lengths at which a message has a frame more, and `sizes` those at which a buffer may grow.
 //!
@@ -18,9 +18,13 @@ mod credited_answers;
 #[cfg(test)]
 mod device_calls;
 #[cfg(test)]
+mod echoes;
+#[cfg(test)]
 mod frame_layouts;
 #[cfg(test)]
 mod frame_verdicts;
+#[cfg(test)]
+mod functional_identifiers;
 #[cfg(test)]
 mod log_lines;
 #[cfg(test)]
@@ -37,5 +41,7 @@ mod rows;
 mod session_rows;
 #[cfg(test)]
 mod sizes;
+#[cfg(test)]
+mod slow_rows;
 #[cfg(test)]
 mod standard_names;

@@ -69,24 +69,31 @@ mask = [\"6701*\"]
 units
 unit = [1]
 
-unit 0 missing tester
+unit 1 missing tester
 [[unit]]
 name = \"engine\"
 unit = \"7E8\"
 
-unit 0 no identifier
+unit 1 no identifier
 [[unit]]
 name = \"engine\"
 tester = 0x7E0
 unit = \"7E8\"
 
-unit 0 same identifiers
+unit 1 same identifiers
 [[unit]]
 name = \"engine\"
 tester = \"7e0\"
 unit = \"7E0\"
 
-unit 1 name of 0
+unit 1 functional of a side
+[[unit]]
+name = \"engine\"
+tester = \"7E0\"
+unit = \"7E8\"
+functional = \"7e8\"
+
+unit 2 name of 1
 [[unit]]
 name = \"engine\"
 tester = \"7E0\"
@@ -96,7 +103,7 @@ name = \"engine\"
 tester = \"7E1\"
 unit = \"7E9\"
 
-unit 1 pair of 0
+unit 2 pair of 1
 [[unit]]
 name = \"engine\"
 tester = \"7E0\"
@@ -213,23 +220,24 @@ fn wrong_words(alloc: Global, wrong: &Wrong<'_>) -> Result<String, Fail> {
         Wrong::ManyRules => String::from_str(alloc, "many rules")?,
         Wrong::Shared(earlier, later) => format!(in alloc; "shared {earlier} {later}")?,
         Wrong::ManyUnits => String::from_str(alloc, "many units")?,
-        Wrong::InUnit(place, wrong) => unit_words(alloc, *place, wrong)?,
+        Wrong::InUnit(number, wrong) => unit_words(alloc, *number, wrong)?,
     };
     Ok(words)
 }
 
 /// A fault of a unit in words.
-fn unit_words(alloc: Global, place: usize, wrong: &UnitWrong<'_>) -> Result<String, Fail> {
+fn unit_words(alloc: Global, number: usize, wrong: &UnitWrong<'_>) -> Result<String, Fail> {
     let words = match wrong {
-        UnitWrong::UnknownKey(key) => format!(in alloc; "unit {place} {key}: unknown key")?,
-        UnitWrong::NotAName => format!(in alloc; "unit {place} name")?,
-        UnitWrong::NoIdentifier(_) => format!(in alloc; "unit {place} no identifier")?,
-        UnitWrong::OutOfRange(_) => format!(in alloc; "unit {place} out of range")?,
-        UnitWrong::Missing(UnitKey::Tester) => format!(in alloc; "unit {place} missing tester")?,
-        UnitWrong::Missing(_) => format!(in alloc; "unit {place} missing another")?,
-        UnitWrong::SameIdentifier => format!(in alloc; "unit {place} same identifiers")?,
-        UnitWrong::SameName(other) => format!(in alloc; "unit {place} name of {other}")?,
-        UnitWrong::SamePair(other) => format!(in alloc; "unit {place} pair of {other}")?,
+        UnitWrong::UnknownKey(key) => format!(in alloc; "unit {number} {key}: unknown key")?,
+        UnitWrong::NotAName => format!(in alloc; "unit {number} name")?,
+        UnitWrong::NoIdentifier(_) => format!(in alloc; "unit {number} no identifier")?,
+        UnitWrong::OutOfRange(_) => format!(in alloc; "unit {number} out of range")?,
+        UnitWrong::Missing(UnitKey::Tester) => format!(in alloc; "unit {number} missing tester")?,
+        UnitWrong::Missing(_) => format!(in alloc; "unit {number} missing another")?,
+        UnitWrong::SameIdentifier => format!(in alloc; "unit {number} same identifiers")?,
+        UnitWrong::SameFunctional => format!(in alloc; "unit {number} functional of a side")?,
+        UnitWrong::SameName(other) => format!(in alloc; "unit {number} name of {other}")?,
+        UnitWrong::SamePair(other) => format!(in alloc; "unit {number} pair of {other}")?,
     };
     Ok(words)
 }

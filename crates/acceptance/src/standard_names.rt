@@ -1,11 +1,11 @@
 //! The names of the standards, number by number, and what stands beside them without one. No value here comes from the
 //! program: each row is typed from the table of its standard.
 
-use crate::rows::{assert_text, bytes_of, lines_of};
+use crate::rows::{assert_text, bytes_of, digits_of, lines_of};
 use std::test::Fail;
 use uds_names::{
     data_identifier_name, kwp_service_name, obd_service_name, response_code_name, routine_name,
-    sub_function_name,
+    status_bit_name, sub_function_name, trouble_code, trouble_records,
 };
 
 /// Sub-functions, each behind its service, and with bit 7, which is no part of their number (ISO 14229-1, the tables of
@@ -267,6 +267,79 @@ const KWP_SERVICES: &str = "\
 82 stopCommunication
 83 -";
 
+/// Trouble codes of three bytes (SAE J2012, ISO 15031-6): P0xxx to P3xxx, C0xxx to C3xxx, B0xxx to B3xxx and U0xxx to U3xxx,
+/// and the failure type.
+const TROUBLE_CODES: &str = "\
+000000 P0000-00
+012345 P0123-45
+0FFF00 P0FFF-00
+1A0BFF P1A0B-FF
+20AC2C P20AC-2C
+3FFFFF P3FFF-FF
+400000 C0000-00
+4123A1 C0123-A1
+7FFFFF C3FFF-FF
+800000 B0000-00
+9A4C11 B1A4C-11
+BFFFFF B3FFF-FF
+C00000 U0000-00
+C10087 U0100-87
+FFFFFF U3FFF-FF";
+
+/// The bits of the status of a trouble code (ISO 14229-1, Annex D.2).
+const STATUS_BITS: &str = "\
+00 testFailed
+01 testFailedThisOperationCycle
+02 pendingDTC
+03 confirmedDTC
+04 testNotCompletedSinceLastClear
+05 testFailedSinceLastClear
+06 testNotCompletedThisOperationCycle
+07 warningIndicatorRequested
+08 -
+FF -";
+
+/// Messages, and the trouble codes with their status that stand in them (ISO 14229-1, ReadDTCInformation, positive response
+/// message definitions).
+const TROUBLE_RECORDS: &str = "\
+5902FF01234508 01234508
+5902FF01234508C100872F 01234508C100872F
+5902FF -
+5902 -
+59 -
+5902FF0123 -
+5902FF012345 -
+5902FF0123450800 -
+5902FF01234508C10087 -
+5901FF01234508 -
+5903FF01234508 -
+5907FF01234508 -
+5908FF01234508 -
+5909FF01234508 -
+590AFF01234508 01234508
+590BFF01234508 01234508
+590CFF01234508 01234508
+590DFF01234508 01234508
+590EFF01234508 01234508
+590FFF01234508 -
+5914FF01234508 -
+5915FF01234508 01234508
+5916FF01234508 -
+5982FF01234508 -
+590401234508 01234508
+59040123450801F190 01234508
+5904012345 -
+5904 -
+590601234508 01234508
+590601234508017A 01234508
+5906 -
+590501234508 -
+1902FF01234508 -
+190401234508 -
+7F1902FF01234508 -
+5802FF01234508 -
+ -";
+
 #[test]
 fn sub_functions_have_the_names_of_the_standard(rt: HostRuntime) -> Result<(), Fail> {
     let alloc = rt.alloc();
@@ -329,6 +402,51 @@ fn services_of_other_standards_have_their_names(rt: HostRuntime) -> Result<(), F
         let service = bytes_of(alloc, digits)?;
         let found = kwp_service_name(*service.first().ok_or("no service")?);
         assert_text(&rt, row, found.unwrap_or("-"), name);
+    }
+    Ok(())
+}
+
+#[test]
+fn trouble_codes_are_spelled_as_in_the_standard(rt: HostRuntime) -> Result<(), Fail> {
+    let alloc = rt.alloc();
+    for row in lines_of(TROUBLE_CODES) {
+        let (digits, spelled) = row.split_once(' ').ok_or("no code")?;
+        match bytes_of(alloc, digits)?.as_slice() {
+            [high, middle, low] => {
+                let code = trouble_code(*high, *middle, *low);
+                assert_text(&rt, row, str::from_utf8(&code)?, spelled);
+            }
+            _ => Err("not three bytes")?,
+        }
+    }
+    Ok(())
+}
+
+#[test]
+fn bits_of_a_status_have_the_names_of_the_standard(rt: HostRuntime) -> Result<(), Fail> {
+    let alloc = rt.alloc();
+    for row in lines_of(STATUS_BITS) {
+        let (digits, name) = row.split_once(' ').ok_or("no name")?;
+        let bit = bytes_of(alloc, digits)?;
+        let found = status_bit_name(*bit.first().ok_or("no bit")?);
+        assert_text(&rt, row, found.unwrap_or("-"), name);
+    }
+    Ok(())
+}
+
+#[test]
+fn trouble_codes_stand_where_the_standard_has_them(rt: HostRuntime) -> Result<(), Fail> {
+    let alloc = rt.alloc();
+    for row in lines_of(TROUBLE_RECORDS) {
+        let (digits, records) = row.split_once(' ').ok_or("no codes")?;
+        let response = bytes_of(alloc, digits)?;
+        let found = digits_of(alloc, trouble_records(&response))?;
+        let found = if found.is_empty() {
+            "-"
+        } else {
+            found.as_str()
+        };
+        assert_text(&rt, row, found, records);
     }
     Ok(())
 }

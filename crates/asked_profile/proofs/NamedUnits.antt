@@ -7,7 +7,7 @@ use Rattle.std.proofs.lemmas.Bool.{cases_Bool}
 use Rattle.std.proofs.lemmas.Slice.Eq.{bytes_eq-Decides}
 use Rattle.profile.specs.Laws.{AreTwo, AreToldApart}
 use Rattle.profile.specs.Units.{UnitValue}
-use Rattle.asked_profile.specs.Choice.{chosen_of, named, identifiers_of}
+use Rattle.asked_profile.specs.Choice.{chosen_of, unit_named, identifiers_of}
 use Rattle.asked_profile.specs.Laws.{ChosenIsNamed, NamedIsChosen, NoneIsWithoutUnits}
 use Rattle.asked_profile.specs.declared.choice.ChoiceFault.{ChoiceFault}
 use Rattle.asked_profile.specs.declared.choice.RunIdentifiers.{RunIdentifiers}
@@ -18,7 +18,7 @@ taken_or other (Ok (Some taken)) = taken
 taken_or other (Ok None) = other
 taken_or other (Err fault) = other
 
-named_taken : (units : List UnitValue) (name : List ℕ) (taken : RunIdentifiers) → named units name ≡ Ok (Some taken)
+named_taken : (units : List UnitValue) (name : List ℕ) (taken : RunIdentifiers) → unit_named units name ≡ Ok (Some taken)
     → (one : UnitValue) × (Contains units one × (one.name ≡ name)) × (taken ≡ identifiers_of one)
 named_taken [] name taken is = absurd (cc is)
 named_taken (first ∷ rest) name taken is =
@@ -45,7 +45,7 @@ of_one P (first ∷ rest) one zero all less is = subst P is all.0
 of_one P (first ∷ rest) one (suc place) all less is = of_one P rest one place all.1 (omega arith) is
 
 named_found : (units : List UnitValue) (name : List ℕ) (one : UnitValue) (place : ℕ) → AreToldApart units → place < length units
-    → slice_index_or units place one ≡ one → one.name ≡ name → named units name ≡ Ok (Some (identifiers_of one))
+    → slice_index_or units place one ≡ one → one.name ≡ name → unit_named units name ≡ Ok (Some (identifiers_of one))
 named_found [] name one place apart less is same = absurd (omega arith)
 named_found (first ∷ rest) name one zero apart less is same =
     let equal : bytes_eq first.name name ≡ true = (bytes_eq-Decides first.name name).1 (ap (λ one. one.name) is ∙ same) in
@@ -63,7 +63,7 @@ named_is_chosen units None one apart is = ap (λ units. chosen_of units None) is
 named_is_chosen [] (Some name) one apart is = absurd (let less = is.0.1 in omega (arith, less))
 named_is_chosen (first ∷ rest) (Some name) one apart is = named_found (first ∷ rest) name one is.0.0 apart is.0.1 is.0.2 is.1
 
-never_none : (units : List UnitValue) (name : List ℕ) → named units name ≡ Ok None → ⊥
+never_none : (units : List UnitValue) (name : List ℕ) → unit_named units name ≡ Ok None → ⊥
 never_none [] name is = cc is
 never_none (first ∷ rest) name is =
     elim (cases_Bool (bytes_eq first.name name)) [

@@ -1,10 +1,11 @@
 -- What a text asks for as a profile.
-use Rattle.std.specs.Prelude.{◌≡◌, ℕ, ◌<◌, ◌≤◌, ⊤, List, ◌++◌, codes, length, Option, Some, None, option_map, Result, Ok, Err}
+use Rattle.std.specs.Prelude.{◌≡◌, ℕ, ◌<◌, ◌≤◌, List, ◌++◌, codes, length, Option, Some, None, option_map, Result, Ok, Err}
 use Rattle.std.specs.Fmt.{decimal}
 use Rattle.std.specs.Str.{IsUtf8}
 use Rattle.toml.specs.Data.{Members}
+use Rattle.toml.specs.Errors.{IsBlank}
 use Rattle.toml.specs.Parse.{parse_document}
-use Rattle.profile.specs.Answers.{profile_value}
+use Rattle.profile.specs.Answers.{TakesMemory, profile_value}
 use Rattle.profile.specs.Document.{IsPlaceIn}
 use Rattle.profile.specs.Profile.{ProfileValue, profile_of}
 use Rattle.profile.specs.Wrong.{WrongValue}
@@ -21,15 +22,20 @@ asked_by text = option_map profile_of (parse_document text)
 abbrev pub IsReadable : List ℕ → Type 0
 IsReadable text = (length text ≤ 65536) × IsUtf8 text
 
--- This is told, of this line. Where memory is refused nothing is said.
-abbrev pub IsTold : ℕ → List ℕ → AskedFault → Type 0
-IsTold line text fault.Memory = ⊤
-IsTold line text (fault.Wrong told) = (told.line ≡ line) × (told.text.items ≡ text)
+-- This is told, of this line. Memory is refused only to a text that has a byte.
+abbrev pub IsToldOf : ℕ → List ℕ → AskedFault → Type 0
+IsToldOf line text fault.Memory = 1 ≤ length text
+IsToldOf line text (fault.Wrong told) = (told.line ≡ line) × (told.text.items ≡ text)
+
+-- what a document asks for takes memory: a rule or a unit, or what is told of a wrong one
+abbrev pub TakesMemoryOf : Members → Result ProfileValue WrongValue → Type 0
+TakesMemoryOf document (Ok profile) = TakesMemory profile
+TakesMemoryOf document (Err wrong) = 1 ≤ length (wrong_text document wrong)
 
 -- the answer is the profile that a document is, or what is told of a wrong one
 abbrev pub IsAskedOf : Members → Result Profile AskedFault → Type 0
 IsAskedOf document (Ok profile) = profile_of document ≡ Ok (profile_value profile)
-IsAskedOf document (Err fault.Memory) = ⊤
+IsAskedOf document (Err fault.Memory) = TakesMemoryOf document (profile_of document)
 IsAskedOf document (Err (fault.Wrong told)) =
     (wrong : WrongValue) × (profile_of document ≡ Err wrong) × (told.line ≡ 0) × (told.text.items ≡ wrong_text document wrong)
 
@@ -41,8 +47,15 @@ pub data IsWrong : List ℕ → ℕ → List ℕ → Type 0 where
   is_no_profile : {text : List ℕ} (document : Members) (wrong : WrongValue) → IsReadable text → parse_document text ≡ Some document → profile_of document ≡ Err wrong
       → IsWrong text 0 (wrong_text document wrong)
 
--- The answer is the profile that a text is, or what is told of a wrong one. Where memory is refused nothing is said.
+-- What memory is taken for: the document of a text that has more than white space and comments; its profile, where that has
+-- a rule or a unit; and what is told of a wrong one.
+pub data WantsMemory : List ℕ → Type 0 where
+  for_document : {text : List ℕ} → length text ≤ 65536 → (IsBlank text → ⊥) → WantsMemory text
+  for_profile : {text : List ℕ} (profile : ProfileValue) → IsReadable text → asked_by text ≡ Some (Ok profile) → TakesMemory profile → WantsMemory text
+  for_told : {text : List ℕ} (line : ℕ) (told : List ℕ) → IsWrong text line told → 1 ≤ length told → WantsMemory text
+
+-- The answer is the profile that a text is, or what is told of a wrong one. Memory is refused only where it is wanted.
 abbrev pub IsAsked : List ℕ → Result Profile AskedFault → Type 0
 IsAsked text (Ok profile) = IsReadable text × (asked_by text ≡ Some (Ok (profile_value profile)))
-IsAsked text (Err fault.Memory) = ⊤
+IsAsked text (Err fault.Memory) = WantsMemory text
 IsAsked text (Err (fault.Wrong told)) = IsWrong text told.line told.text.items

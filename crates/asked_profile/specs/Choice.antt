@@ -8,12 +8,12 @@ use Rattle.asked_profile.specs.declared.choice.RunIdentifiers.{RunIdentifiers}
 
 -- the identifiers of a unit
 abbrev pub identifiers_of : UnitValue → RunIdentifiers
-identifiers_of one = record { tester = one.tester; unit = one.unit }
+identifiers_of one = record { tester = one.tester; unit = one.unit; functional = one.functional }
 
 -- those of the unit of this name
-abbrev pub named : List UnitValue → List ℕ → Result (Option RunIdentifiers) ChoiceFault
-named [] name = Err NoSuchUnit
-named (one ∷ rest) name = if bytes_eq one.name name then Ok (Some (identifiers_of one)) else named rest name
+abbrev pub unit_named : List UnitValue → List ℕ → Result (Option RunIdentifiers) ChoiceFault
+unit_named [] name = Err NoSuchUnit
+unit_named (one ∷ rest) name = if bytes_eq one.name name then Ok (Some (identifiers_of one)) else unit_named rest name
 
 -- those of the only unit, where there is one; where there is none, they are not the profile's to say
 abbrev pub alone : List UnitValue → Result (Option RunIdentifiers) ChoiceFault
@@ -26,7 +26,7 @@ alone (one ∷ other ∷ rest) = Err SeveralUnits
 abbrev pub chosen_of : List UnitValue → Option (List ℕ) → Result (Option RunIdentifiers) ChoiceFault
 chosen_of units None = alone units
 chosen_of [] (Some name) = Err NoUnits
-chosen_of (one ∷ rest) (Some name) = named (one ∷ rest) name
+chosen_of (one ∷ rest) (Some name) = unit_named (one ∷ rest) name
 
 -- the name of a unit behind another one
 abbrev pub name_behind : UnitValue → List ℕ

@@ -1,8 +1,8 @@
 -- What is told of one unit of a profile with which something is wrong.
-use Rattle.std.specs.Prelude.{ℕ, ◌+◌, nat_lt, List, ◌++◌, codes, if◌then◌else◌}
+use Rattle.std.specs.Prelude.{ℕ, List, ◌++◌, codes}
 use Rattle.std.specs.Fmt.{decimal}
 use Rattle.line_text.specs.Clipped.{clipped}
-use Rattle.profile.specs.UnitWrong.{UnitWrongValue, unknown_key, not_a_name, no_identifier, out_of_range, missing, same_identifier, same_name, same_pair}
+use Rattle.profile.specs.UnitWrong.{UnitWrongValue, unknown_key, not_a_name, no_identifier, out_of_range, missing, same_identifier, same_functional, same_name, same_pair}
 use Rattle.profile.specs.declared.unit_wrong.UnitKey.{UnitKey}
 use Rattle.profile.specs.declared.unit_wrong.UnitKey.TheVariants as unit_key
 
@@ -11,10 +11,7 @@ abbrev pub unit_key_text : UnitKey → List ℕ
 unit_key_text unit_key.Name = codes "name"
 unit_key_text unit_key.Tester = codes "tester"
 unit_key_text unit_key.Unit = codes "unit"
-
--- the number of a unit, from 1, where they are counted from 0; no profile has more than the largest number
-abbrev pub unit_number : ℕ → ℕ
-unit_number place = if nat_lt place 0xFFFFFFFFFFFFFFFF then place + 1 else 0xFFFFFFFFFFFFFFFF
+unit_key_text unit_key.Functional = codes "functional"
 
 -- what is told of a unit with which this is wrong
 abbrev pub unit_wrong_text : UnitWrongValue → List ℕ
@@ -24,5 +21,6 @@ unit_wrong_text (no_identifier key) = unit_key_text key ++ codes ": not three or
 unit_wrong_text (out_of_range key) = unit_key_text key ++ codes ": identifier out of range"
 unit_wrong_text (missing key) = unit_key_text key ++ codes ": missing"
 unit_wrong_text same_identifier = codes "tester and unit have the same identifier"
-unit_wrong_text (same_name place) = codes "name: that of unit " ++ decimal (unit_number place)
-unit_wrong_text (same_pair place) = codes "tester and unit: those of unit " ++ decimal (unit_number place)
+unit_wrong_text same_functional = codes "functional identifier is that of tester or unit"
+unit_wrong_text (same_name number) = codes "name: that of unit " ++ decimal number
+unit_wrong_text (same_pair number) = codes "tester and unit: those of unit " ++ decimal number

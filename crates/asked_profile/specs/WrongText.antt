@@ -5,11 +5,11 @@ use Rattle.toml.specs.Data.{Members}
 use Rattle.line_text.specs.Clipped.{clipped, clipped_as_written}
 use Rattle.uds_rules.specs.declared.rule.RuleFault.{RuleFault}
 use Rattle.uds_rules.specs.declared.rule.RuleFault.TheVariants as rule_fault
-use Rattle.profile.specs.ProfileRules.{rule_text}
+use Rattle.profile.specs.ProfileRules.{written_rule}
 use Rattle.profile.specs.Wrong.{WrongValue, unknown_key, not_strings, not_units, bad_rule, many_rules, shared, many_units, in_unit}
 use Rattle.profile.specs.declared.wrong.RuleKey.{RuleKey}
 use Rattle.profile.specs.declared.wrong.RuleKey.TheVariants as rule_key
-use Rattle.asked_profile.specs.UnitWrongText.{unit_number, unit_wrong_text}
+use Rattle.asked_profile.specs.UnitWrongText.{unit_wrong_text}
 
 -- a key whose value is rules, as the profile has it
 abbrev pub rule_key_text : RuleKey → List ℕ
@@ -25,7 +25,7 @@ rule_fault_text rule_fault.SubFunctionMasked = codes "a sub-function can't be ma
 
 -- the rule at a place, in the order drops, masks, as the profile has it
 abbrev pub rule_at : ℕ → Members → List ℕ
-rule_at place document = clipped_as_written (unwrap_or (rule_text place document) [])
+rule_at place document = clipped_as_written (unwrap_or (written_rule place document) [])
 
 -- what is told of a document with which this is wrong: keys and rules as it has them
 abbrev pub wrong_text : Members → WrongValue → List ℕ
@@ -36,4 +36,4 @@ wrong_text document (bad_rule key text fault) = rule_key_text key ++ codes " " +
 wrong_text document many_rules = codes "more than 64 rules"
 wrong_text document (shared earlier later) = rule_at earlier document ++ codes " and " ++ rule_at later document ++ codes " are rules for one message"
 wrong_text document many_units = codes "more than 64 units"
-wrong_text document (in_unit place wrong) = codes "unit " ++ decimal (unit_number place) ++ codes ": " ++ unit_wrong_text wrong
+wrong_text document (in_unit number wrong) = codes "unit " ++ decimal number ++ codes ": " ++ unit_wrong_text wrong

@@ -2,7 +2,7 @@
 
 ghost use Rattle.std.specs.Prelude.{◌≡◌};
 ghost use Rattle.toml.specs.View.{table_view};
-ghost use Rattle.asked_profile.specs.Asked.{IsAsked, IsAskedOf, IsTold};
+ghost use Rattle.asked_profile.specs.Asked.{IsAsked, IsAskedOf, IsToldOf};
 
 use crate::wrong_text::WrongText;
 use line_text::line_in;
@@ -63,9 +63,9 @@ fn profile_of_document(alloc: Global, document: &Table) -> Result<Profile, Asked
     }
 }
 
-/// This is told of a text, where memory is not refused.
+/// This is told of a text, unless memory is refused.
 fn told<P: Part>(alloc: Global, line: u64, part: P) -> AskedFault
-    ensures { IsTold line (P.text part) result }
+    ensures { IsToldOf line (P.text part) result }
 {
     match line_in(alloc, part) {
         Ok(text) => AskedFault::Wrong(WrongProfile { line, text }),

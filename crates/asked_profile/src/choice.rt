@@ -2,7 +2,7 @@
 
 ghost use Rattle.std.specs.Prelude.{◌≡◌, map, option_map};
 ghost use Rattle.profile.specs.Answers.{unit_value};
-ghost use Rattle.asked_profile.specs.Choice.{alone, chosen_of, named, identifiers_of};
+ghost use Rattle.asked_profile.specs.Choice.{alone, chosen_of, unit_named, identifiers_of};
 
 use can_log::Id;
 use profile::ControlUnit;
@@ -14,6 +14,8 @@ pub struct RunIdentifiers {
     pub tester: Id,
     /// That of the unit.
     pub unit: Id,
+    /// That on which the tester asks all units, if it does.
+    pub functional: Option<Id>,
 }
 
 /// Why no unit is chosen.
@@ -39,7 +41,7 @@ pub fn chosen(
         Some(name) => if units.is_empty() {
             Err(ChoiceFault::NoUnits)
         } else {
-            named(units, name)
+            unit_named(units, name)
         },
     }
 }
@@ -56,8 +58,8 @@ fn alone(units: &[ControlUnit]) -> Result<Option<RunIdentifiers>, ChoiceFault>
 }
 
 /// The identifiers of the unit of this name.
-fn named(units: &[ControlUnit], name: &[u8]) -> Result<Option<RunIdentifiers>, ChoiceFault>
-    ensures { result ≡ named (map unit_value units.now) name.now }
+fn unit_named(units: &[ControlUnit], name: &[u8]) -> Result<Option<RunIdentifiers>, ChoiceFault>
+    ensures { result ≡ unit_named (map unit_value units.now) name.now }
 {
     'units: for one in units {
         if one.name.as_bytes() == name {
@@ -74,5 +76,6 @@ fn identifiers_of(one: &ControlUnit) -> RunIdentifiers
     RunIdentifiers {
         tester: one.tester,
         unit: one.unit,
+        functional: one.functional,
     }
 }

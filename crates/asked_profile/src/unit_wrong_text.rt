@@ -1,7 +1,7 @@
 //! What is told of one unit of a profile with which something is wrong.
 
 ghost use Rattle.std.specs.Prelude.{◌≡◌};
-ghost use Rattle.asked_profile.specs.UnitWrongText.{unit_key_text, unit_number};
+ghost use Rattle.asked_profile.specs.UnitWrongText.{unit_key_text};
 
 use line_text::Clipped;
 use profile::{UnitKey, UnitWrong};
@@ -35,37 +35,15 @@ impl<'a> Part for UnitWrongText<'a> {
             }
             UnitWrong::Missing(key) => say(out, (unit_key_text(key), ": missing")),
             UnitWrong::SameIdentifier => say(out, "tester and unit have the same identifier"),
-            UnitWrong::SameName(place) => say(out, ("name: that of unit ", UnitNumber(place))),
-            UnitWrong::SamePair(place) => {
-                say(out, ("tester and unit: those of unit ", UnitNumber(place)))
+            UnitWrong::SameFunctional => {
+                say(out, "functional identifier is that of tester or unit")
             }
+            UnitWrong::SameName(number) => say(out, ("name: that of unit ", Number(number as u64))),
+            UnitWrong::SamePair(number) => say(
+                out,
+                ("tester and unit: those of unit ", Number(number as u64)),
+            ),
         }
-    }
-}
-
-/// The number of a unit, from 1, at a place, from 0.
-#[derive(Clone, Copy)]
-pub(crate) struct UnitNumber(pub usize);
-
-impl Part for UnitNumber {
-    ghost use Rattle.std.specs.Fmt.{decimal};
-    ghost use Rattle.asked_profile.specs.UnitWrongText.{unit_number};
-
-    ghost text = { λ number. decimal (unit_number number.0) };
-
-    fn say<S: TextSink>(self, out: &mut S) {
-        Number(unit_number(self.0)).say(out);
-    }
-}
-
-/// The number of a unit, from 1.
-fn unit_number(place: usize) -> u64
-    ensures { result ≡ unit_number place }
-{
-    if (place as u64) < u64::MAX {
-        place as u64 + 1
-    } else {
-        u64::MAX
     }
 }
 
@@ -77,5 +55,6 @@ fn unit_key_text(key: UnitKey) -> &'static str
         UnitKey::Name => "name",
         UnitKey::Tester => "tester",
         UnitKey::Unit => "unit",
+        UnitKey::Functional => "functional",
     }
 }

@@ -3,12 +3,13 @@
 ghost use Rattle.std.specs.Prelude.{◌≡◌};
 ghost use Rattle.asked_profile.specs.WrongText.{rule_fault_text, rule_key_text};
 
-use crate::unit_wrong_text::{UnitNumber, UnitWrongText};
+use crate::unit_wrong_text::UnitWrongText;
 use line_text::{AsWritten, Clipped};
-use profile::{RuleKey, Wrong, rule_text};
+use profile::{RuleKey, Wrong, written_rule};
 use text_parts::{Part, say};
 use toml::Table;
 use trace_io::TextSink;
+use trace_text::Number;
 use uds_rules::RuleFault;
 
 /// What is told of a document with which this is wrong.
@@ -45,11 +46,9 @@ impl<'a> Part for WrongText<'a> {
                 say(out, (one, " and ", other, " are rules for one message"));
             }
             Wrong::ManyUnits => say(out, "more than 64 units"),
-            Wrong::InUnit(place, wrong) => {
-                say(
-                    out,
-                    ("unit ", UnitNumber(place), ": ", UnitWrongText(wrong)),
-                )
+            Wrong::InUnit(number, wrong) => {
+                let number = Number(number as u64);
+                say(out, ("unit ", number, ": ", UnitWrongText(wrong)))
             }
         }
     }
@@ -67,7 +66,7 @@ impl<'a> Part for RuleAt<'a> {
 
     fn say<S: TextSink>(self, out: &mut S) {
         let RuleAt(place, document) = self;
-        AsWritten(rule_text(document, place).unwrap_or("").as_bytes()).say(out);
+        AsWritten(written_rule(document, place).unwrap_or("").as_bytes()).say(out);
     }
 }
 

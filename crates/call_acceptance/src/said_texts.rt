@@ -12,7 +12,6 @@ use std::test::Fail;
 use text_parts::{Part, say};
 use trace_io::TextSink;
 use trace_log::Count;
-use trace_text::values::{say_number, say_place, say_text};
 use trace_text::{
     Byte, EndCause, HexBytes, HexadecimalDigit, LayoutFault, Length, Number, Ordinal, ResponseCode,
     Sender, ServiceName, SixDecimals, Stamp, ThreeDecimals, Verbatim, say_counts, say_items,
@@ -65,11 +64,8 @@ fn assert_part<P: Part>(rt: &impl Abort, alloc: Global, part: P, text: &str) -> 
     assert_kept(rt, &said, text)
 }
 
-/// The number is said so, and as a part.
+/// The number is said so.
 fn assert_number(rt: &impl Abort, alloc: Global, number: u64, text: &str) -> Result<(), Fail> {
-    let mut said = empty_sink(alloc);
-    say_number(&mut said, number);
-    assert_kept(rt, &said, text)?;
     assert_part(rt, alloc, Number(number), text)
 }
 
@@ -134,11 +130,9 @@ fn parts_are_said_one_after_another(rt: HostRuntime) -> Result<(), Fail> {
 #[test]
 fn each_name_and_number_is_said(rt: HostRuntime) -> Result<(), Fail> {
     let mut said = empty_sink(rt.alloc());
-    say_text(&mut said, "from ");
+    say(&mut said, "from ");
     say(&mut said, (Sender(Tester), " to ", Sender(Unit)));
-    say_text(&mut said, ", ");
-    say_place(&mut said, 9);
-    say_text(&mut said, ", ");
+    say(&mut said, (", ", Ordinal(9), ", "));
     say(
         &mut said,
         (
@@ -174,10 +168,10 @@ fn what_was_lost_is_said(rt: HostRuntime) -> Result<(), Fail> {
     let mut said = empty_sink(rt.alloc());
     say(&mut said, EndCause(Cause::Overflow));
     say_counts(
-        &mut said,
         ", ",
         " ",
         &[Count("frames", 12), Count("messages", 0)],
+        &mut said,
     );
     say(&mut said, (", ", LayoutFault(PduFault::Empty)));
     assert_kept(&rt, &said, "overflow, frames 12, messages 0, empty frame")

@@ -13,7 +13,7 @@ use Rattle.std.specs.Int.{trailing_zeros, w64}
 use Rattle.std.specs.List.{prefix_len}
 use lib.Count.{count_trailing_zeros}
 use lib.Lanes.{Each1, chunk, mask_l, top}
-use Rattle.can_log.specs.declared.plain.Told.{Told}
+use Rattle.can_log.specs.declared.lanes.Told.{Told}
 use Rattle.can_log.specs.proving.Plain.{IsFrontOf, Tells, first_set, others_in}
 
 -- the bytes of another kind

@@ -4,8 +4,8 @@ use Rattle.std.proofs.Common.{List, ◌∷◌, ◌++◌, length, take, drop, app
 use Rattle.std.specs.Prelude.{codes}
 use Rattle.std.proofs.lemmas.List.{length-take, take-append-drop, take_all}
 use Rattle.std.proofs.lemmas.Bool.{cases_lt}
-use Rattle.can_log.specs.declared.scanner.Judgement.{Judgement}
-use Rattle.can_log.specs.declared.scanner.Judgement.TheVariants as judgement
+use Rattle.can_log.specs.declared.judgement.Judgement.{Judgement}
+use Rattle.can_log.specs.declared.judgement.Judgement.TheVariants as judgement
 use Rattle.can_log.specs.Line.{Body, classic, remote, fd, LineSpelling, spell_body, spell_mark, spell_line, IsBody, IsMark, IsLineSpelling, LineMeans}
 use Rattle.can_log.specs.declared.frame.Stamped.{Stamped}
 use Rattle.can_log.specs.Refused.{HasCompletion}

@@ -7,10 +7,10 @@ use Rattle.std.proofs.lemmas.List.{length-take-le}
 use Rattle.can_log.specs.declared.frame.Stamped.{Stamped}
 use Rattle.can_log.specs.declared.scanner.Scan.{Scan}
 use Rattle.can_log.specs.declared.scanner.Scan.TheVariants as scan
-use Rattle.can_log.specs.declared.scanner.Judgement.{Judgement}
-use Rattle.can_log.specs.declared.scanner.Judgement.TheVariants as judgement
+use Rattle.can_log.specs.declared.judgement.Judgement.{Judgement}
+use Rattle.can_log.specs.declared.judgement.Judgement.TheVariants as judgement
 use Rattle.can_log.specs.declared.plain.Fields.{Fields}
-use Rattle.can_log.specs.declared.frame.Id.{Id}
+use Rattle.can_log.specs.Wanted.{WantedValue, IsForeign}
 use Rattle.can_log.specs.Line.{LineMeans, IsNoLine, identifier_of, stamped_of, parts_in}
 use Rattle.can_log.specs.proving.Plain.{ArePlainFields, spelling_of, plain_text}
 use Rattle.can_log.specs.proving.Taking.{TakesPlain}
@@ -63,13 +63,12 @@ plain_taken lines taken line refused piece rest fields e none parts legal =
       scans = scan_means lines taken line line refused piece front rest (length piece - length rest) what e none parts used (line_clean front what told) means;
     }
 
--- its frame is of neither wanted identifier
-pub taken_foreign : {first second : Id} {old new : Standing} {piece : List ℕ} {fields : Fields} {used : ℕ} → TakesPlain old piece fields used new
-    → (identifier_of fields.identifier.now ≡ first → ⊥) → (identifier_of fields.identifier.now ≡ second → ⊥) → ScansForeign first second old piece used new
-taken_foreign {fields = fields} takes not_first not_second = record {
+-- its frame is of no wanted identifier
+pub taken_foreign : {wanted : WantedValue} {old new : Standing} {piece : List ℕ} {fields : Fields} {used : ℕ} → TakesPlain old piece fields used new
+    → IsForeign wanted (identifier_of fields.identifier.now) → ScansForeign wanted old piece used new
+taken_foreign {fields = fields} takes foreign = record {
   stamped = stamped_of (parts_in (spelling_of fields));
-  not_first = not_first;
-  not_second = not_second;
+  foreign = foreign;
   scans = takes.scans;
 }
 

@@ -1,5 +1,5 @@
 -- What a contract sees of a frame, and which frames there are (ISO 11898-1).
-use Rattle.std.specs.Prelude.{ℕ, ◌+◌, ◌*◌, ◌<◌, ◌≤◌, List, length, ⊤}
+use Rattle.std.specs.Prelude.{ℕ, ◌<◌, ◌≤◌, List, length, ⊤}
 use Rattle.std.specs.List.{AllByRecursion}
 use Rattle.can_log.specs.declared.frame.Id.{Id}
 use Rattle.can_log.specs.declared.frame.Id.TheVariants as id
@@ -31,16 +31,6 @@ IsCanIdentifier (id.Ext number) = number ≤ 0x1FFFFFFF
 abbrev pub IsIdentifier : Id → Type 0
 IsIdentifier (id.Std number) = number ≤ 0x7FF
 IsIdentifier (id.Ext number) = ⊤
-
--- an identifier of either format as one number: an even one for the base format, an odd one for the extended
-abbrev pub number_of : Id → ℕ
-number_of (id.Std number) = 2 * number
-number_of (id.Ext number) = 2 * number + 1
-
--- two identifiers whose frames are wanted
-pub record WantedValue : Type 0 where
-  pub first : Id
-  pub second : Id
 
 -- there is a frame with these parts
 pub record IsFrame (id : Id) (kind : Kind) (bytes : List ℕ) : Type 0 where

@@ -1,9 +1,9 @@
 -- How a scanner stands between two pieces of a log, and what it answers on the next piece.
-use Rattle.std.specs.Prelude.{◌≡◌, ◌≢◌, ℕ, ◌+◌, ◌<◌, List, [], ◌++◌, length, codes, Option, Some, None}
-use Rattle.can_log.specs.declared.frame.Id.{Id}
+use Rattle.std.specs.Prelude.{◌≡◌, ℕ, ◌+◌, ◌<◌, List, [], ◌++◌, length, codes, Option, Some, None}
 use Rattle.can_log.specs.declared.frame.Stamped.{Stamped}
 use Rattle.can_log.specs.declared.scanner.Scan.{Scan}
 use Rattle.can_log.specs.declared.scanner.Scan.TheVariants as scan
+use Rattle.can_log.specs.Wanted.{WantedValue, IsForeign}
 use Rattle.can_log.specs.Line.{LineMeans}
 use Rattle.can_log.specs.Refused.{NoLineFeed, HasCompletion, IsRefusedPlace, IsUnfinishedAt}
 
@@ -42,11 +42,10 @@ ScansFrom (Some place) old piece answer new = (answer ≡ scan.Bad place.line pl
 abbrev pub Scans : Standing → List ℕ → Scan → Standing → Type 0
 Scans old piece answer new = ScansFrom old.refused old piece answer new
 
--- It takes the next line, which ends after `used` bytes of the piece and records a frame that has neither identifier.
-pub record ScansForeign (first second : Id) (old : Standing) (piece : List ℕ) (used : ℕ) (new : Standing) : Type 0 where
+-- It takes the next line, which ends after `used` bytes of the piece and records a frame that has none of the identifiers.
+pub record ScansForeign (wanted : WantedValue) (old : Standing) (piece : List ℕ) (used : ℕ) (new : Standing) : Type 0 where
   pub stamped : Stamped
-  pub not_first : stamped.frame.id ≢ first
-  pub not_second : stamped.frame.id ≢ second
+  pub foreign : IsForeign wanted stamped.frame.id
   pub scans : Scans old piece (scan.Line used (old.lines + 1) (Some stamped)) new
 
 -- what it answers at the end of the log, where it refused nothing so far

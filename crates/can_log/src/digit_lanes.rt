@@ -31,7 +31,10 @@ pub fn digits_of_bytes(bytes: &[u8; 8]) -> [u8; 16]
     let bytes = u8x8::from_slice(bytes);
     let high = bytes >> u8x8::splat(4);
     let low = bytes & u8x8::splat(15);
-    digits_of(high.shuffle(low, [0, 8, 1, 9, 2, 10, 3, 11, 4, 12, 5, 13, 6, 14, 7, 15])).to_array()
+    digits_of_values(high.shuffle(
+        low,
+        [0, 8, 1, 9, 2, 10, 3, 11, 4, 12, 5, 13, 6, 14, 7, 15],
+    )).to_array()
 }
 
 /// The sixteen decimal digits of a number.
@@ -44,7 +47,7 @@ pub(crate) fn decimal_digits(number: u64) -> [u8; 16]
     let tens = hundreds / u16x8::splat(10);
     let ones = hundreds % u16x8::splat(10);
     let values: u16x16 = tens.shuffle(ones, [0, 8, 1, 9, 2, 10, 3, 11, 4, 12, 5, 13, 6, 14, 7, 15]);
-    digits_of(values.cast::<u8>()).to_array()
+    digits_of_values(values.cast::<u8>()).to_array()
 }
 
 /// A number in base 100, in eight places.
@@ -69,7 +72,7 @@ fn base_hundred(number: u64) -> u16x8
 
 /// The digits of sixteen values below 16.
 #[inline(always)]
-fn digits_of(values: u8x16) -> u8x16
+fn digits_of_values(values: u8x16) -> u8x16
     requires long { length values ≡ 16 }
     requires each { AllByRecursion (λ v. v < 16) values }
     ensures { result ≡ map digit values }

@@ -129,7 +129,7 @@ fn leading_digits(most: usize, bytes: &[u8]) -> (usize, u64)
 /// The decimal digits at the front, `least` to `most` of them, and the bytes after them.
 #[tactic(auto, unfolding(crate::specs::proving::FieldReader::run_at))]
 #[inline(always)]
-pub(crate) fn number_of(
+pub(crate) fn digits_at_front(
     least: usize,
     most: usize,
     bytes: &[u8],

@@ -16,6 +16,30 @@ pub(crate) const LANES: usize = 16;
 /// How many bytes two vectors have.
 pub(crate) const BOTH: usize = 2 * LANES;
 
+/// Which bytes behind a stamp are hexadecimal digits.
+#[derive(Clone, Copy)]
+pub(crate) struct Told {
+    /// A bit for each of 32 bytes, set where that is no digit.
+    pub(crate) others: u64,
+    /// How many of the bytes are passed.
+    pub(crate) passed: usize,
+}
+
+impl Told {
+    ghost use Rattle.std.specs.Prelude.{◌≤◌};
+    ghost use Rattle.std.specs.Char.{is_ascii_hexdigit};
+    ghost use Rattle.can_log.specs.proving.Plain.{IsFrontOf, Tells};
+
+    /// How many of the bytes that come next, which are these, are digits; more than sixteen where it tells of no end.
+    #[inline(always)]
+    pub(crate) fn digits(self, _bytes: &[u8]) -> usize
+        requires { Tells self _bytes.now }
+        ensures { result ≤ 16 → IsFrontOf is_ascii_hexdigit result _bytes.now }
+    {
+        digits_told(self.others, self.passed)
+    }
+}
+
 /// How many bytes at the front are visible, of sixteen: neither spaces nor control characters.
 #[inline(always)]
 pub(crate) fn visible_front(bytes: &[u8]) -> usize
@@ -73,7 +97,7 @@ pub(crate) fn other_digits_of_both(bytes: &[u8]) -> u64
 /// How many bytes are hexadecimal digits from the place on that such a mask was shifted to; more than 32 where it tells of no
 /// other.
 #[inline(always)]
-pub(crate) fn digits_told(others: u64, passed: usize) -> usize
+fn digits_told(others: u64, passed: usize) -> usize
     requires { passed < 64 }
     ensures { result ≡ trailing_zeros w64 (others / 2 ^ passed) }
 {

@@ -13,6 +13,16 @@
 //!     Scan::End => {}                     // only `finish` answers this
 //! }
 //! ```
+//!
+//! | What it answers | Files | Definitions |
+//! |---|---|---|
+//! | [`Frame`], [`Id`], [`Kind`], with its time [`Stamped`] | `frame` | `Frame` |
+//! | [`Wanted`]: the identifiers whose frames are wanted | `wanted` | `Wanted` |
+//! | what a line means, byte by byte | `field`, `line`, `meaning`, `judgement` | `Line`, `Refused` |
+//! | the same of a line of plain form, sixteen bytes at once | `lanes`, `stamp`, `plain`, `plain_fields`, `padded` | those of a line |
+//! | [`Scanner`]: the lines of a log that comes in pieces | `scanner`, `plain_answers` | `Log`, `Scanning`, `WholeLog` |
+//! | [`line_bytes`] and others: the line of a frame | `canonical`, `line_clock`, `digit_lanes`, `hexadecimal` | `Digits`, `Canonical` |
+//! | [`laws`]: what holds of lines and logs | `laws` | `LogLaws`, `CanonicalLaws`, `Laws` |
 #![tactic(auto)]
 
 mod canonical;
@@ -20,12 +30,16 @@ mod digit_lanes;
 mod field;
 mod frame;
 mod hexadecimal;
+mod judgement;
 mod lanes;
 pub mod laws;
 mod line;
 mod line_clock;
 mod meaning;
+mod padded;
 mod plain;
+mod plain_answers;
+mod plain_fields;
 mod scanner;
 mod stamp;
 mod wanted;

@@ -1,41 +1,35 @@
 //! Lines out of the pieces of a log.
+//!
+//! Each call tries one form of line, and hands any other line on to the next. The left column answers a caller that takes all
+//! frames, the right one a caller that wants some:
+//!
+//! | A line | [`Scanner::scan_into`] | [`Scanner::scan_wanted_into`] |
+//! |---|---|---|
+//! | of plain form, with ten digits of seconds | `scan_plain_into::<true>` | `scan_plain_wanted_into::<true>` |
+//! | of plain form, with fewer | `scan_short_into`, by `scan_plain_into::<false>` | `scan_short_wanted_into`, by `scan_plain_wanted_into::<false>` |
+//! | that is blank | `scan_any_into` | `scan_any_into` |
+//! | of plain form, cut or near the end of the piece | `scan_padded_into` | `scan_padded_into` |
+//! | of any form | `scan_any` | `scan_any` |
+//!
+//! What takes most lines is inlined; each `scan_short_*`, `scan_any_into` and `scan_any` is a call, for the reason that stands
+//! above it.
 
-ghost use Rattle.std.specs.Prelude.{◌≡◌, ℕ, ◌≤◌, ◌+◌, ◌-◌, ◌^◌, ◌++◌, Option, Some, [], ◌<◌, IfOk, IfErr, IfNone, IfSome, IsTrue, false, codes, length, take};
-ghost use Rattle.can_log.specs.Frame.{IsFrame};
-ghost use Rattle.can_log.specs.Line.{LineMeans, IsDataText, bytes_spelled, identifier_of, stamped_of, parts_in};
-ghost use Rattle.can_log.specs.Refused.{NoLineFeed, HasCompletion, IsRefusedPlace};
-ghost use Rattle.can_log.specs.proving.Judging.{Judged};
+ghost use Rattle.std.specs.Prelude.{◌≡◌, ◌≤◌, ◌+◌, ◌^◌, ◌++◌, Some, [], ◌<◌, IfNone, IfSome, IsTrue, false, length};
+ghost use Rattle.can_log.specs.Refused.{NoLineFeed, HasCompletion};
 ghost use Rattle.can_log.specs.Scanning.{Scans, ScansForeign, Finishes};
 ghost use Rattle.can_log.specs.WholeLog.{at_start};
-ghost use Rattle.can_log.specs.declared.scanner.Scan.TheVariants.{Bad, Line};
-ghost use Rattle.can_log.specs.declared.frame.Stamped.{Stamped as StampedValue};
-ghost use Rattle.can_log.specs.proving.Plain.{ArePlainFields, spelling_of};
-ghost use Rattle.can_log.specs.proving.Padded.{line_feeds};
+ghost use Rattle.can_log.specs.declared.scanner.Scan.TheVariants.{Bad};
 ghost use Rattle.can_log.specs.proving.Taking.{TakesPlain};
 
-use crate::field::Stop;
-use crate::frame::{Frame, Id, Kind, Stamped};
-use crate::lanes::LANES;
-use crate::line::judge;
-use crate::meaning::{decoded, stamped_of};
-use crate::plain::{
-    Fields, LONGEST_PLAIN, any_plain_line, plain_digits, plain_identifier, plain_kind, plain_line,
-    plain_time, put_plain_stamped,
-};
-use crate::stamp::LONGEST_FRONT;
+use crate::frame::Stamped;
+use crate::judgement::{Judgement, ended, judgement_on, refused_column};
+use crate::padded::{ROOM_OF_PLAIN, is_front_of_plain, put_line};
+use crate::plain::{Fields, LONGEST_PLAIN, any_plain_line, plain_identifier, plain_line};
+use crate::plain_answers::answer_plain;
 use crate::wanted::Wanted;
 use arrayvec::ArrayVec;
 use memchr::memchr;
 use std::marker::Model;
-
-/// Room for a line of plain form, its line feed, and what the lanes reach beyond it.
-const ROOM_OF_PLAIN: usize = LONGEST_PLAIN + 1 + LANES;
-
-/// A line of plain form with the longest stamp, and else as short as one is.
-const SHORT_LINE: &[u8] = b"(1700000000.000000) a 000#";
-
-/// Where the point of its stamp stands.
-const POINT: usize = 11;
 
 /// What came of a piece of the log, or of its end.
 #[derive(Debug, Drop, PartialEq, Eq)]
@@ -142,7 +136,7 @@ impl Scanner {
         self.scan_short_into(piece, answer);
     }
 
-    /// The same for a caller that wants the frames of two identifiers alone. Where a line of plain form records another frame,
+    /// The same for a caller that wants the frames of some identifiers alone. Where a line of plain form records another frame,
     /// its time and its data are not decoded: it is taken, how many bytes of the piece it has is told, and `answer` stays as it
     /// was. In any other form such a line is answered like the rest.
     #[inline(always)]
@@ -153,7 +147,7 @@ impl Scanner {
         answer: &mut Scan,
     ) -> Option<usize>
         requires { self.old.taken + length piece.now ≤ 2 ^ 62 }
-        ensures foreign { IfSome result (λ used. ScansForeign wanted.now.first wanted.now.second self.old piece.now used self.new) }
+        ensures foreign { IfSome result (λ used. ScansForeign wanted.now self.old piece.now used self.new) }
         ensures answer { IfNone result (Scans self.old piece.now answer.new self.new) }
     {
         match self.scan_plain_wanted_into::<true>(wanted, piece, answer) {
@@ -184,7 +178,7 @@ impl Scanner {
         answer: &mut Scan,
     ) -> Option<usize>
         requires { self.old.taken + length piece.now ≤ 2 ^ 62 }
-        ensures foreign { IfSome result (λ used. ScansForeign wanted.now.first wanted.now.second self.old piece.now used self.new) }
+        ensures foreign { IfSome result (λ used. ScansForeign wanted.now self.old piece.now used self.new) }
         ensures answer { IfNone result (Scans self.old piece.now answer.new self.new) }
     {
         match self.scan_plain_wanted_into::<false>(wanted, piece, answer) {
@@ -198,34 +192,38 @@ impl Scanner {
 
     /// Answers the next line of a piece, if it is of plain form, and tells whether it is.
     #[inline(always)]
-    fn scan_plain_into<const IS_LONG: bool>(&mut self, piece: &[u8], answer: &mut Scan) -> bool
+    fn scan_plain_into<const HAS_TEN_SECONDS: bool>(
+        &mut self,
+        piece: &[u8],
+        answer: &mut Scan,
+    ) -> bool
         requires { self.old.taken + length piece.now ≤ 2 ^ 62 }
         ensures answer { IsTrue result → Scans self.old piece.now answer.new self.new }
         ensures left { result ≡ false → self.new ≡ self.old }
     {
-        let Some((fields, used)) = self.take_plain::<IS_LONG>(piece) else {
+        let Some((fields, used)) = self.take_plain::<HAS_TEN_SECONDS>(piece) else {
             return false;
         };
         answer_plain(answer, used, self.lines, fields, plain_identifier(fields));
         true
     }
 
-    /// The same for a caller that wants two identifiers alone: what `scan_wanted_into` gives, if the line is of plain form.
+    /// The same for a caller that wants some identifiers alone: what `scan_wanted_into` gives, if the line is of plain form.
     #[inline(always)]
-    fn scan_plain_wanted_into<const IS_LONG: bool>(
+    fn scan_plain_wanted_into<const HAS_TEN_SECONDS: bool>(
         &mut self,
         wanted: &Wanted,
         piece: &[u8],
         answer: &mut Scan,
     ) -> Option<Option<usize>>
         requires { self.old.taken + length piece.now ≤ 2 ^ 62 }
-        ensures foreign { IfSome result (λ foreign. IfSome foreign (λ used. ScansForeign wanted.now.first wanted.now.second self.old piece.now used self.new)) }
+        ensures foreign { IfSome result (λ foreign. IfSome foreign (λ used. ScansForeign wanted.now self.old piece.now used self.new)) }
         ensures answer { IfSome result (λ foreign. IfNone foreign (Scans self.old piece.now answer.new self.new)) }
         ensures left { IfNone result (self.new ≡ self.old) }
     {
-        let (fields, used) = self.take_plain::<IS_LONG>(piece)?;
+        let (fields, used) = self.take_plain::<HAS_TEN_SECONDS>(piece)?;
         let id = plain_identifier(fields);
-        if !wanted.has(id) {
+        if !wanted.is_wanted(id) {
             return Some(Some(used));
         }
         answer_plain(answer, used, self.lines, fields, id);
@@ -235,7 +233,7 @@ impl Scanner {
     /// Takes the next line of a piece, if it is of plain form and nothing comes before it: its fields, and how many bytes of
     /// the piece it has.
     #[inline(always)]
-    fn take_plain<'a, const IS_LONG: bool>(
+    fn take_plain<'a, const HAS_TEN_SECONDS: bool>(
         &mut self,
         piece: &'a [u8],
     ) -> Option<(Fields<'a>, usize)>
@@ -246,7 +244,7 @@ impl Scanner {
         if self.refused.is_some() || !self.line.is_empty() {
             return None;
         }
-        let (fields, rest) = plain_line::<IS_LONG>(piece)?;
+        let (fields, rest) = plain_line::<HAS_TEN_SECONDS>(piece)?;
         let used = piece.len() - rest.len();
         self.lines += 1;
         self.taken += used as u64;
@@ -422,75 +420,6 @@ impl Default for Scanner {
     }
 }
 
-/// Answers what a line of plain form records, which has `used` bytes of the piece. Where the frame of the answer before has as
-/// many bytes of data, it is changed where it lies: nothing is cleared, and nothing copied.
-#[inline(always)]
-fn answer_plain(answer: &mut Scan, used: usize, line: u64, fields: Fields<'_>, id: Id)
-    requires legal { ArePlainFields fields }
-    requires identifier { id ≡ identifier_of fields.identifier.now }
-    ensures { answer.new ≡ Line used line (Some (stamped_of (parts_in (spelling_of fields.entry)))) }
-{
-    if let Scan::Line {
-        what: Some(stamped),
-        ..
-    } = answer
-    {
-        if 2 * stamped.frame.data().len() == plain_digits(fields).len() {
-            put_plain_stamped(fields, id, stamped);
-            number_answer(answer, used, line);
-            return;
-        }
-    }
-    answer_anew(
-        answer,
-        used,
-        line,
-        plain_time(fields),
-        id,
-        plain_kind(fields),
-        plain_digits(fields),
-    );
-}
-
-/// Answers with a frame made anew, whatever was answered before. It is handed the parts of the frame, and not the fields of
-/// the line: for those the caller would clear room with each line.
-#[inline(never)]
-fn answer_anew(
-    answer: &mut Scan,
-    used: usize,
-    line: u64,
-    micros: u64,
-    id: Id,
-    kind: Kind,
-    digits: &[u8],
-)
-    requires text { IsDataText 128 digits.now }
-    requires frame { IsFrame id kind (bytes_spelled digits.now) }
-    ensures { answer.new ≡ Line used line (Some (record { micros = micros; frame = record { id = id; kind = kind; bytes = bytes_spelled digits.now } })) }
-{
-    *answer = Scan::Line {
-        used,
-        line,
-        what: Some(Stamped {
-            micros,
-            frame: Frame::from_parts(id, kind, decoded(digits)),
-        }),
-    };
-}
-
-/// Tells of an answered line how many bytes of the piece it has, and its number.
-#[inline(always)]
-fn number_answer(answer: &mut Scan, used: usize, line: u64)
-    ensures { (earlier_used earlier_line : ℕ) (what : Option StampedValue) → answer.old ≡ Line earlier_used earlier_line what → answer.new ≡ Line used line what }
-{
-    if let Scan::Line { used: earlier, .. } = answer {
-        *earlier = used;
-    }
-    if let Scan::Line { line: earlier, .. } = answer {
-        *earlier = line;
-    }
-}
-
 /// The answer at a refused place.
 fn bad(place: Place) -> Scan
     ensures { result ≡ Bad place.line place.column }
@@ -499,144 +428,4 @@ fn bad(place: Place) -> Scan
         line: place.line,
         column: place.column,
     }
-}
-
-/// What the bytes of a line are, whole or so far.
-#[derive(Drop)]
-enum Judgement {
-    Means(Option<Stamped>),
-    /// They end too early, and can be completed.
-    Short,
-    /// The byte at this column, counted from 1, is refused.
-    Refused(u32),
-}
-
-/// What a line that ends after `bytes` means, or the column that is refused.
-fn ended(line: &[u8], bytes: &[u8]) -> Result<Option<Stamped>, u32>
-    requires short { length line.now ≤ 223 }
-    requires clean { NoLineFeed (line.now ++ bytes.now) }
-    ensures ok { IfOk result (λ what. LineMeans (line.now ++ bytes.now) what) }
-    ensures err { IfErr result (λ column. IsRefusedPlace ((line.now ++ bytes.now) ++ codes "\n") column) }
-{
-    match line_judgement(line, bytes) {
-        Judgement::Means(what) => Ok(what),
-        Judgement::Short => Err((line.len() + bytes.len() + 1) as u32),
-        Judgement::Refused(column) => Err(column),
-    }
-}
-
-/// Whether a few bytes make a line of plain form of what is there so far. `false` says no more than that none were found that do.
-#[inline(never)]
-fn is_front_of_plain(line: &[u8], bytes: &[u8]) -> bool
-    requires { NoLineFeed (line.now ++ bytes.now) }
-    ensures { IsTrue result → HasCompletion (line.now ++ bytes.now) }
-{
-    let end = line.len() + bytes.len();
-    if end > LONGEST_PLAIN {
-        return false;
-    }
-    let mut padded = [b'\n'; ROOM_OF_PLAIN];
-    put_line(&mut padded, line, bytes);
-    let Some(completion) = completion_of(&padded[..end]) else {
-        return false;
-    };
-    let whole = end + completion.len();
-    if whole > LONGEST_PLAIN {
-        return false;
-    }
-    padded[end..whole].copy_from_slice(completion);
-    let completed: &[u8] = &padded;
-    if end < POINT {
-        return plain_line::<false>(completed).is_some();
-    }
-    plain_line::<true>(completed).is_some()
-}
-
-/// What is likely to complete a line with the longest stamp, cut in its stamp or in its data: the rest of the stamp and a frame
-/// without data, or the second digit of a byte, or nothing.
-#[inline(always)]
-fn completion_of(front: &[u8]) -> Option<&'static [u8]>
-    ensures few { IfSome result (λ completion. length completion.now ≤ 16) }
-    ensures clean { IfSome result (λ completion. NoLineFeed completion.now) }
-{
-    if front.len() <= LONGEST_FRONT {
-        // Where the seconds are cut, those that are there are taken for all.
-        return Some(&SHORT_LINE[front.len().max(POINT)..]);
-    }
-    let behind = &front[LONGEST_FRONT..];
-    let at = memchr(b'#', behind)?;
-    // Of an FD frame two bytes stand before the digits: another `#`, and the flags.
-    let is_halved = (behind.len() - at) % 2 == 0;
-    Some(if is_halved { b"0" } else { b"" })
-}
-
-/// Puts a line that may be cut where line feeds stand: the lanes reach beyond its end. They are handed in, since an array that
-/// is returned is copied.
-#[inline(always)]
-fn put_line(padded: &mut [u8; ROOM_OF_PLAIN], line: &[u8], bytes: &[u8])
-    requires feeds { padded.old ≡ line_feeds ROOM_OF_PLAIN }
-    requires short { length line.now + length bytes.now ≤ LONGEST_PLAIN }
-    ensures { padded.new ≡ (line.now ++ bytes.now) ++ line_feeds (ROOM_OF_PLAIN - (length line.now + length bytes.now)) }
-{
-    let length = line.len();
-    padded[..length].copy_from_slice(line);
-    padded[length..length + bytes.len()].copy_from_slice(bytes);
-}
-
-/// The column that is refused, if one is.
-fn refused_column(line: &[u8], bytes: &[u8]) -> Option<u32>
-    requires short { length line.now ≤ 223 }
-    requires clean { NoLineFeed (line.now ++ bytes.now) }
-    ensures none { IfNone result (HasCompletion (line.now ++ bytes.now)) }
-    ensures some { IfSome result (λ column. IsRefusedPlace (line.now ++ bytes.now) column) }
-{
-    match joined_judgement(line, bytes) {
-        Judgement::Means(_) => None,
-        Judgement::Short => None,
-        Judgement::Refused(column) => Some(column),
-    }
-}
-
-/// The judgement on `line` and then `bytes`, with no copy where nothing comes before `bytes`.
-fn line_judgement(line: &[u8], bytes: &[u8]) -> Judgement
-    requires { length line.now ≤ 223 }
-    ensures { Judged (line.now ++ bytes.now) result }
-{
-    if line.is_empty() {
-        judgement_on(bytes)
-    } else {
-        joined_judgement(line, bytes)
-    }
-}
-
-/// The judgement on a line that is cut. Of 224 bytes one is refused, so no more are looked at.
-fn joined_judgement(line: &[u8], bytes: &[u8]) -> Judgement
-    requires { length line.now ≤ 223 }
-    ensures { Judged (line.now ++ bytes.now) result }
-{
-    let mut joined: ArrayVec<u8, 224> = ArrayVec::new();
-    // There is room: of the two no more than 224 bytes are joined.
-    let _ = joined.try_extend_from_slice(line);
-    let _ = joined.try_extend_from_slice(front_of(bytes, 224 - line.len()));
-    judgement_on(joined.as_slice())
-}
-
-/// The judgement on bytes that lie in one piece.
-#[inline(always)]
-fn judgement_on(bytes: &[u8]) -> Judgement
-    ensures { Judged bytes.now result }
-{
-    match judge(bytes) {
-        Ok(None) => Judgement::Means(None),
-        Ok(Some(parts)) => Judgement::Means(Some(stamped_of(parts))),
-        Err(Stop::Short) => Judgement::Short,
-        Err(Stop::Refused(rest)) => Judgement::Refused((bytes.len() - rest.len() + 1) as u32),
-    }
-}
-
-/// The first `n` bytes, or all where there are fewer.
-fn front_of(bytes: &[u8], n: usize) -> &[u8]
-    ensures { result.now ≡ take n bytes.now }
-{
-    if n < bytes.len() { &bytes[..n] } else { bytes }
 }

@@ -106,11 +106,11 @@ fn are_zeros(lanes: u8x16) -> bool
 /// The time in microseconds.
 #[inline(always)]
 pub(crate) fn time_of(stamp: &[u8]) -> u64
-    requires long { length stamp.now ≡ 17 }
+    requires long { length stamp.now ≡ LONGEST_STAMP }
     requires digits { AreDecimals (seconds_of stamp.now ++ micros_of stamp.now) }
     ensures { result ≡ time_spelled stamp.now }
 {
-    decimal_number(digits_of(stamp))
+    decimal_number(stamp_digits(stamp))
 }
 
 /// The same of a stamp with fewer digits of seconds.
@@ -120,13 +120,13 @@ pub(crate) fn time_of_short(stamp: &[u8]) -> u64
     requires short { length stamp.now < LONGEST_STAMP }
     ensures { result ≡ time_spelled stamp.now }
 {
-    decimal_number(short_digits_of(stamp))
+    decimal_number(short_stamp_digits(stamp))
 }
 
 /// The digits of a stamp with zeros in front, as many as make it the longest. It is read by its first eight bytes and its last
 /// eight, which overlap: so how many bytes are read is known when it is compiled, and they are put in their places in a register.
 #[inline(always)]
-fn short_digits_of(stamp: &[u8]) -> u8x16
+fn short_stamp_digits(stamp: &[u8]) -> u8x16
     requires enough { SHORTEST_STAMP ≤ length stamp.now }
     requires short { length stamp.now < LONGEST_STAMP }
     ensures { result ≡ seconds_of (padded stamp.now) ++ micros_of (padded stamp.now) }
@@ -140,8 +140,8 @@ fn short_digits_of(stamp: &[u8]) -> u8x16
 
 /// The digits of the stamp, without its point.
 #[inline(always)]
-fn digits_of(stamp: &[u8]) -> u8x16
-    requires { length stamp.now ≡ 17 }
+fn stamp_digits(stamp: &[u8]) -> u8x16
+    requires { length stamp.now ≡ LONGEST_STAMP }
     ensures { result ≡ seconds_of stamp.now ++ micros_of stamp.now }
 {
     let seconds = u8x16::from_slice(stamp);

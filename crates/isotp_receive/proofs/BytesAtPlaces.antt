@@ -4,7 +4,7 @@ use Rattle.std.proofs.Common.{inl, inr, append_assoc, length-append, get_or-take
 use Rattle.std.proofs.lemmas.List.{get_or-drop, get_or_append_left, get_or-append-add}
 use Rattle.std.proofs.lemmas.Grind.{get_or_after_one}
 use Rattle.std.proofs.lemmas.Bool.{cases_lt}
-use Rattle.direction.specs.declared.Dir.{Dir}
+use Rattle.isotp_receive.specs.declared.channel.Channel.{Channel}
 use Rattle.isotp_receive.specs.Trace.{Entry, FirstFrame, first, consecutive, role}
 use Rattle.isotp_receive.specs.Places.{bytes_in_first, bytes_before, consecutive_by, consecutive_frames_in, between, IsConsecutive, AtPlaces}
 use Rattle.isotp_receive.specs.StandingReception.{carried, is_open}
@@ -16,11 +16,11 @@ use Rattle.isotp_receive.proofs.FullFrames.{open-after, carried-full, come-so-fa
 use Rattle.isotp_receive.proofs.CarriedBytes.{Carrier, all-full, carries}
 
 -- how many bytes have come, by the places of the first frame
-pub come-by-places : (limit : ℕ) (d : Dir) (e0 : Entry) (s : FirstFrame) (since : List Entry) → role d e0 ≡ first s → is_open limit d s since ≡ true
+pub come-by-places : (limit : ℕ) (d : Channel) (e0 : Entry) (s : FirstFrame) (since : List Entry) → role d e0 ≡ first s → is_open limit d s since ≡ true
     → length (s.bytes ++ carried d since) ≡ bytes_before (bytes_in_first e0.frame.bytes) s.rx_dl (consecutive_frames_in d since)
 come-by-places limit d e0 s since begins opens = come-so-far limit d s since opens ∙ room-join d e0 s (consecutive_frames_in d since) begins
 
-module _ (limit : ℕ) (d : Dir) (before : List Entry) (e0 : Entry) (s : FirstFrame) (since : List Entry) (begins : role d e0 ≡ first s) (opens : is_open limit d s since ≡ true) where
+module _ (limit : ℕ) (d : Channel) (before : List Entry) (e0 : Entry) (s : FirstFrame) (since : List Entry) (begins : role d e0 ≡ first s) (opens : is_open limit d s since ≡ true) where
   -- ---- what has come, whatever follows
 
   module _ (rest : List Entry) where

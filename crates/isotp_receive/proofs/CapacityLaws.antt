@@ -6,12 +6,15 @@ use Rattle.direction.specs.declared.Dir.{Dir}
 use Rattle.direction.specs.declared.Dir.TheVariants.{Tester, Unit}
 use Rattle.isotp_pdu.specs.Layout.{Layout}
 use Rattle.isotp_pdu.specs.Layout as layout
-use Rattle.isotp_pdu.specs.Reading.{layout_of}
-use Rattle.isotp_pdu.specs.declared.PduFault.{PduFault}
 use Rattle.isotp_receive.specs.Trace.{Entry}
 use Rattle.isotp_receive.specs.StandingReception.{StandingReception, stands, receptions_after, of_direction}
 use Rattle.isotp_receive.specs.Capacities.{PairValue, capacity_of, announced_with, come_with, CapacitiesGrow, TakesOne, IsRun, end_of, come_of, most_come, new_pair, most_come_after, IsWithin, KeepsWithin}
 use Rattle.isotp_receive.proofs.StandingLaws.{kept-bytes}
+use Rattle.isotp_receive.specs.Channels.{dir_of}
+use Rattle.isotp_receive.specs.Channels.{channel_of}
+use Rattle.isotp_receive.specs.Trace.{layout_in}
+use Rattle.isotp_receive.specs.declared.event.Reason.{Reason}
+use Rattle.isotp_receive.specs.declared.channel.Channel.{Channel}
 
 -- ---- what is announced is within the limit
 
@@ -19,7 +22,7 @@ announced-first : (limit len : ℕ) (b : Bool) → nat_le len limit ≡ b → (i
 announced-first limit len true h = leb-true len limit h
 announced-first limit len false h = omega arith
 
-pub announced-fits : (limit : ℕ) (T : List Entry) (d : Dir) (standing : Option StandingReception) (read : Result Layout PduFault) → stands limit d T ≡ standing
+pub announced-fits : (limit : ℕ) (T : List Entry) (d : Channel) (standing : Option StandingReception) (read : Result Layout Reason) → stands limit d T ≡ standing
     → announced_with limit standing read ≤ limit
 announced-fits limit T d standing (Ok (layout.first len rx_dl bytes)) h = announced-first limit len (nat_le len limit) refl
 announced-fits limit T d None (Ok (layout.consecutive n c bytes)) h = omega arith
@@ -28,7 +31,7 @@ announced-fits limit T d standing (Ok (layout.single message)) h = omega arith
 announced-fits limit T d standing (Ok (layout.flow_control status)) h = omega arith
 announced-fits limit T d standing (Err fault) h = omega arith
 
-stands-there : (limit : ℕ) (T : List Entry) (d : Dir) → stands limit d T ≡ of_direction (receptions_after limit T) d
+stands-there : (limit : ℕ) (T : List Entry) (d : Dir) → stands limit (channel_of d) T ≡ of_direction (receptions_after limit T) d
 stands-there limit T Tester = refl
 stands-there limit T Unit = refl
 
@@ -40,19 +43,19 @@ record Step (limit : ℕ) (d : Dir) (pair : PairValue) (e : Entry) (new : PairVa
   fits : capacity_of new d ≤ max (capacity_of pair d) limit
 
 module _ (limit : ℕ) (pair new : PairValue) (line micros : ℕ) (T : List Entry) (stood : pair.receptions ≡ receptions_after limit T) where
-  own : (d : Dir) (read : Result Layout PduFault) → CapacitiesGrow limit d read pair new
+  own : (d : Dir) (read : Result Layout Reason) → CapacitiesGrow limit d read pair new
       → (capacity_of new d ≤ max (capacity_of pair d) (2 * come_with (of_direction pair.receptions d) read)) × (capacity_of new d ≤ max (capacity_of pair d) limit)
   own d read grew =
-      let fits = announced-fits limit T d (of_direction pair.receptions d) read (stands-there limit T d ∙ ap (λ r. of_direction r d) (sym stood)) in
+      let fits = announced-fits limit T (channel_of d) (of_direction pair.receptions d) read (stands-there limit T d ∙ ap (λ r. of_direction r d) (sym stood)) in
       let within = grew.own.within_announced in
       (grew.own.within_twice_come, omega arith)
 
-step : (limit : ℕ) (d x : Dir) (pair new : PairValue) (e : Entry) → e.dir ≡ x → TakesOne limit pair e new → Step limit d pair e new
+step : (limit : ℕ) (d x : Dir) (pair new : PairValue) (e : Entry) → dir_of e.channel ≡ x → TakesOne limit pair e new → Step limit d pair e new
 step limit Tester Tester pair new e h taken =
-    let grown = own limit pair new e.line e.micros taken.before taken.stood Tester (layout_of e.frame) (rw h at taken.grew) in
+    let grown = own limit pair new e.line e.micros taken.before taken.stood Tester (layout_in e) (rw h at taken.grew) in
     record { come = rw h grown.0; fits = grown.1 }
 step limit Unit Unit pair new e h taken =
-    let grown = own limit pair new e.line e.micros taken.before taken.stood Unit (layout_of e.frame) (rw h at taken.grew) in
+    let grown = own limit pair new e.line e.micros taken.before taken.stood Unit (layout_in e) (rw h at taken.grew) in
     record { come = rw h grown.0; fits = grown.1 }
 step limit Tester Unit pair new e h taken =
     let same : capacity_of new Tester ≡ capacity_of pair Tester = (rw h at taken.grew).other in
@@ -67,7 +70,7 @@ over-run : (limit : ℕ) (d : Dir) (pair : PairValue) (run : List (Entry × Pair
     → (capacity_of (end_of pair run) d ≤ max (capacity_of pair d) (2 * most_come d pair run)) × (capacity_of (end_of pair run) d ≤ max (capacity_of pair d) limit)
 over-run limit d pair [] taken = (omega arith, omega arith)
 over-run limit d pair (s ∷ rest) taken =
-    let first = step limit d s.0.dir pair s.1 s.0 refl taken.0 in
+    let first = step limit d (dir_of s.0.channel) pair s.1 s.0 refl taken.0 in
     let come = first.come in
     let fits = first.fits in
     let others = over-run limit d s.1 rest taken.1 in
@@ -106,10 +109,10 @@ new-within limit = record {
 }
 
 module _ (limit : ℕ) (T : List Entry) (e : Entry) (old new : PairValue) (stood : old.receptions ≡ receptions_after limit T)
-    (grew : CapacitiesGrow limit e.dir (layout_of e.frame) old new) where
+    (grew : CapacitiesGrow limit (dir_of e.channel) (layout_in e) old new) where
   within-more : (d : Dir) → IsWithin limit T d (capacity_of old d) → IsWithin limit (T ++ e ∷ []) d (capacity_of new d)
   within-more d within =
-      let taken = step limit d e.dir old new e refl (record { before = T; stood = stood; grew = grew }) in
+      let taken = step limit d (dir_of e.channel) old new e refl (record { before = T; stood = stood; grew = grew }) in
       let come = subst (λ r. capacity_of new d ≤ max (capacity_of old d) (2 * come_of d r e)) stood taken.come in
       let fits = taken.fits in
       let more = most-more limit d [] T e in
@@ -120,7 +123,7 @@ module _ (limit : ℕ) (T : List Entry) (e : Entry) (old new : PairValue) (stood
       record { twice_come = omega arith; largest = omega arith }
 
 pub one-more-within : (limit : ℕ) (T : List Entry) (e : Entry) (old new : PairValue) → old.receptions ≡ receptions_after limit T → KeepsWithin limit T old
-    → CapacitiesGrow limit e.dir (layout_of e.frame) old new → KeepsWithin limit (T ++ e ∷ []) new
+    → CapacitiesGrow limit (dir_of e.channel) (layout_in e) old new → KeepsWithin limit (T ++ e ∷ []) new
 one-more-within limit T e old new stood within grew = record {
   tester = within-more limit T e old new stood grew Tester within.tester;
   unit = within-more limit T e old new stood grew Unit within.unit;

@@ -5,7 +5,7 @@ use Rattle.std.specs.Prelude.{⊤, ◌⊎◌}
 use Rattle.std.proofs.lemmas.Bool.{le-leb}
 use Rattle.std.proofs.lemmas.List.{append-nil}
 use Rattle.std.proofs.lemmas.Option.{slice_get_within}
-use Rattle.direction.specs.declared.Dir.{Dir}
+use Rattle.isotp_receive.specs.declared.channel.Channel.{Channel}
 use Rattle.isotp_receive.specs.Trace.{Entry, single, first, role, At}
 use Rattle.isotp_receive.specs.StandingReception.{StandingReception, stands}
 use Rattle.isotp_receive.specs.Recording.{IsRisingFrom, IsSegmented, Carries, unsegmented, segmented, Transfer, IsIn, last_or}
@@ -31,15 +31,15 @@ placed_of [] = []
 placed_of (g ∷ gs) = (last_or 0 g.positions, g.message) ∷ placed_of gs
 
 -- each is no longer than the limit, and its positions carry it
-abbrev pub AreCarried : ℕ → List Entry → Dir → List Transfer → Type 0
+abbrev pub AreCarried : ℕ → List Entry → Channel → List Transfer → Type 0
 AreCarried limit T d [] = ⊤
 AreCarried limit T d (g ∷ gs) = ((length g.message ≤ limit) × Carries T d g.message g.positions) × AreCarried limit T d gs
 
 -- from n on, each frame of T is at one of the positions, or is no frame of a message
-abbrev pub IsCovered : List Entry → Dir → ℕ → List ℕ → Type 0
+abbrev pub IsCovered : List Entry → Channel → ℕ → List ℕ → Type 0
 IsCovered T d n ps = (p : ℕ) (e : Entry) → n ≤ p → At T p e → IsIn p ps ⊎ IsQuiet (role d e)
 
-passed : (T : List Entry) (d : Dir) (n : ℕ) (ps : List ℕ) → IsCovered T d n (n ∷ ps) → IsCovered T d (suc n) ps
+passed : (T : List Entry) (d : Channel) (n : ℕ) (ps : List ℕ) → IsCovered T d n (n ∷ ps) → IsCovered T d (suc n) ps
 passed T d n ps cover p e above at = elim (cover p e (omega arith) at) [
   | inl i ↦ (elim i [ inl same ↦ absurd (omega arith) | inr there ↦ inl there ])
   | inr quiet ↦ inr quiet
@@ -47,7 +47,7 @@ passed T d n ps cover p e above at = elim (cover p e (omega arith) at) [
 
 -- ---- one frame
 
-module _ (limit : ℕ) (T : List Entry) (d : Dir) (n : ℕ) (e : Entry) (at : At T n e) where
+module _ (limit : ℕ) (T : List Entry) (d : Channel) (n : ℕ) (e : Entry) (at : At T n e) where
   -- what the frame makes of the direction, where `out` is still to be delivered
   record Stepped (o : Option StandingReception) (out : List (ℕ × List ℕ)) : Type 0 where
     cs : List ℕ
@@ -177,12 +177,12 @@ module _ (limit : ℕ) (T : List Entry) (d : Dir) (n : ℕ) (e : Entry) (at : At
 
 -- ---- all frames
 
-has-first : (T : List Entry) (d : Dir) (m ps : List ℕ) → Carries T d m ps → (p : ℕ) × (e : Entry) × (rest : List ℕ) × (ps ≡ p ∷ rest) × At T p e
+has-first : (T : List Entry) (d : Channel) (m ps : List ℕ) → Carries T d m ps → (p : ℕ) × (e : Entry) × (rest : List ℕ) × (ps ≡ p ∷ rest) × At T p e
 has-first T d m _ (unsegmented {position = p} one) = (p, one.entry, [], refl, one.stands)
 has-first T d m _ (segmented {begun = i} {positions = cs} l) = (i, l.begins.entry, cs, refl, l.begins.stands)
 
 -- nothing is left at the end
-over : (limit : ℕ) (T : List Entry) (d : Dir) (o : Option StandingReception) (cs : List ℕ) (out : List (ℕ × List ℕ)) (gs : List Transfer) → State T d (length T) o cs out
+over : (limit : ℕ) (T : List Entry) (d : Channel) (o : Option StandingReception) (cs : List ℕ) (out : List (ℕ × List ℕ)) (gs : List Transfer) → State T d (length T) o cs out
     → AreCarried limit T d gs → IsRisingFrom (length T) (cs ++ all_positions gs) → [] ≡ out ++ placed_of gs
 over limit T d _ _ _ [] closed carried rising = refl
 over limit T d _ _ _ (g ∷ gs) closed carried rising =
@@ -193,7 +193,7 @@ over limit T d _ _ _ gs (opened {c = c} s) carried rising =
     let part = s.parts.0 in
     absurd (let inside = slice_get_within T c part.next.entry part.next.stands in let a = rising.0 in omega arith)
 
-run : (limit : ℕ) (before T : List Entry) (d : Dir) (n : ℕ) (past es : List Entry) → n ≡ length past → T ≡ past ++ es
+run : (limit : ℕ) (before T : List Entry) (d : Channel) (n : ℕ) (past es : List Entry) → n ≡ length past → T ≡ past ++ es
     → (o : Option StandingReception) (cs : List ℕ) (out : List (ℕ × List ℕ)) (gs : List Transfer) → State T d n o cs out → stands limit d (before ++ past) ≡ o → AreCarried limit T d gs
     → IsRisingFrom n (cs ++ all_positions gs) → IsCovered T d n (cs ++ all_positions gs) → heard limit d n (before ++ past) es ≡ out ++ placed_of gs
 run limit before T d n past [] at split o cs out gs state now carried rising cover =
@@ -215,7 +215,7 @@ run limit before T d n past (e ∷ es) at split o cs out gs state now carried ri
     ∙ s.tells
 
 -- after any trace a direction delivers the messages that its positions carry
-pub direction-heard : (limit : ℕ) (before T : List Entry) (d : Dir) (gs : List Transfer) → AreCarried limit T d gs
+pub direction-heard : (limit : ℕ) (before T : List Entry) (d : Channel) (gs : List Transfer) → AreCarried limit T d gs
     → IsRisingFrom 0 (all_positions gs) → IsCovered T d 0 (all_positions gs) → heard limit d 0 before T ≡ placed_of gs
 direction-heard limit before T d gs carried rising cover =
     ap (λ l. heard limit d 0 l T) (sym (append-nil before))

@@ -1,7 +1,7 @@
 -- The bytes that the consecutive frames of a list carry, each w of them: which frame carries which byte.
 use Rattle.std.proofs.Common.{◌≡◌, ℕ, zero, suc, ◌+◌, ◌-◌, ◌*◌, ◌<◌, true, List, [], ◌∷◌, ◌++◌, length, get_or, refl, ◌∙◌, ap, arith}
 use Rattle.std.proofs.lemmas.List.{get_or_append_left, get_or-append-add}
-use Rattle.direction.specs.declared.Dir.{Dir}
+use Rattle.isotp_receive.specs.declared.channel.Channel.{Channel}
 use Rattle.isotp_receive.specs.Trace.{Entry, FirstFrame, FrameRole, single, first, consecutive, continue_or_wait, overflow, no_part, role}
 use Rattle.isotp_receive.specs.Places.{consecutive_by, consecutive_frames_in}
 use Rattle.isotp_receive.specs.StandingReception.{carried_by, carried, standing_of, carried_after, keeps_by, keep}
@@ -12,22 +12,22 @@ use Rattle.isotp_receive.proofs.FitTests.{was-next}
 use Rattle.isotp_receive.proofs.OpenLaws.{kept-at}
 
 -- each consecutive frame carries w bytes
-pub AllFull : Dir → ℕ → List Entry → Type 0
+pub AllFull : Channel → ℕ → List Entry → Type 0
 AllFull d w es =
     (b after : List Entry) (x : Entry) (sequence_number can_dl : ℕ) (bytes : List ℕ)
     → es ≡ b ++ x ∷ after → role d x ≡ consecutive sequence_number can_dl bytes → length bytes ≡ w
 
-full-later : (d : Dir) (w : ℕ) (x : Entry) (es : List Entry) → AllFull d w (x ∷ es) → AllFull d w es
+full-later : (d : Channel) (w : ℕ) (x : Entry) (es : List Entry) → AllFull d w (x ∷ es) → AllFull d w es
 unfolding AllFull
 full-later d w x es h b after y sequence_number can_dl bytes splits kind = h (x ∷ b) after y sequence_number can_dl bytes (ap (λ l. x ∷ l) splits) kind
 
-full-here : (d : Dir) (w : ℕ) (x : Entry) (es : List Entry) (sequence_number can_dl : ℕ) (bytes : List ℕ)
+full-here : (d : Channel) (w : ℕ) (x : Entry) (es : List Entry) (sequence_number can_dl : ℕ) (bytes : List ℕ)
     → AllFull d w (x ∷ es) → role d x ≡ consecutive sequence_number can_dl bytes → length bytes ≡ w
 unfolding AllFull
 full-here d w x es sequence_number can_dl bytes h kind = h [] es x sequence_number can_dl bytes refl kind
 
 -- those of a reception that is open do
-pub all-full : (d : Dir) (s : FirstFrame) (es : List Entry) → keep d s [] es ≡ true → carried_after s (consecutive_frames_in d es) < s.len → AllFull d (s.rx_dl - 1) es
+pub all-full : (d : Channel) (s : FirstFrame) (es : List Entry) → keep d s [] es ≡ true → carried_after s (consecutive_frames_in d es) < s.len → AllFull d (s.rx_dl - 1) es
 unfolding AllFull
 all-full d s es kept room b after x sequence_number can_dl bytes splits kind =
     let here : keeps_by d s b x.micros (consecutive sequence_number can_dl bytes) ≡ true = rw kind at (kept-at d s es kept b after x splits) in
@@ -42,7 +42,7 @@ all-full d s es kept room b after x sequence_number can_dl bytes splits kind =
     omega arith
 
 -- the consecutive frame number q of a list, from 0, and what it carries
-pub record Carrier (d : Dir) (es : List Entry) (q : ℕ) : Type 0 where
+pub record Carrier (d : Channel) (es : List Entry) (q : ℕ) : Type 0 where
   pub b : List Entry
   pub x : Entry
   pub after : List Entry
@@ -53,12 +53,12 @@ pub record Carrier (d : Dir) (es : List Entry) (q : ℕ) : Type 0 where
   pub kind : role d x ≡ consecutive sequence_number can_dl bytes
   pub number : consecutive_frames_in d b ≡ q
 
-pub record CarriesByte (d : Dir) (es : List Entry) (w q b : ℕ) : Type 0 where
+pub record CarriesByte (d : Channel) (es : List Entry) (w q b : ℕ) : Type 0 where
   pub carrier : Carrier d es q
   pub byte : get_or (carried d es) (q * w + b) 0 ≡ get_or carrier.bytes b 0
 
 -- one frame more in front, with w bytes if it is a consecutive frame and else with none
-carries-later : (d : Dir) (x : Entry) (es : List Entry) (w q q' b : ℕ) → q' ≡ consecutive_by (role d x) + q → length (carried_by (role d x)) ≡ consecutive_by (role d x) * w
+carries-later : (d : Channel) (x : Entry) (es : List Entry) (w q q' b : ℕ) → q' ≡ consecutive_by (role d x) + q → length (carried_by (role d x)) ≡ consecutive_by (role d x) * w
     → CarriesByte d es w q b → CarriesByte d (x ∷ es) w q' b
 carries-later d x es w q q' b sum size h = record {
   carrier = record {
@@ -79,7 +79,7 @@ carries-later d x es w q q' b sum size h = record {
       ∙ get_or-append-add (carried_by (role d x)) (carried d es) (q * w + b) 0 ∙ h.byte;
 }
 
-carries-here : (d : Dir) (x : Entry) (es : List Entry) (w b sequence_number can_dl : ℕ) (bytes : List ℕ) → role d x ≡ consecutive sequence_number can_dl bytes → b < length bytes
+carries-here : (d : Channel) (x : Entry) (es : List Entry) (w b sequence_number can_dl : ℕ) (bytes : List ℕ) → role d x ≡ consecutive sequence_number can_dl bytes → b < length bytes
     → CarriesByte d (x ∷ es) w 0 b
 carries-here d x es w b sequence_number can_dl bytes kind inside = record {
   carrier = record { b = []; x = x; after = es; sequence_number = sequence_number; can_dl = can_dl; bytes = bytes; splits = refl; kind = kind; number = refl };
@@ -88,7 +88,7 @@ carries-here d x es w b sequence_number can_dl bytes kind inside = record {
       ∙ ap (λ j. get_or (bytes ++ carried d es) j 0) place ∙ get_or_append_left bytes (carried d es) 0 b inside);
 }
 
-pub carries : (d : Dir) (w : ℕ) (es : List Entry) (q b : ℕ) → AllFull d w es → b < w → q < consecutive_frames_in d es → CarriesByte d es w q b
+pub carries : (d : Channel) (w : ℕ) (es : List Entry) (q b : ℕ) → AllFull d w es → b < w → q < consecutive_frames_in d es → CarriesByte d es w q b
 carries d w [] q b full inside below = absurd (omega arith)
 carries d w (x ∷ es) q b full inside below = by_role (role d x) q refl below (λ j. carries d w es j b (full-later d w x es full) inside) where
   -- a frame that carries nothing

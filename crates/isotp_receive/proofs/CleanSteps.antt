@@ -4,7 +4,7 @@ use Rattle.std.specs.Prelude.{◌⊎◌}
 use Rattle.std.specs.List.{AllByRecursion}
 use Rattle.std.proofs.lemmas.Bool.{le-leb}
 use Rattle.direction.specs.Dir.{Message}
-use Rattle.direction.specs.declared.Dir.{Dir}
+use Rattle.isotp_receive.specs.declared.channel.Channel.{Channel}
 use Rattle.isotp_receive.specs.Trace.{Entry, FrameRole, consecutive, role, At}
 use Rattle.isotp_receive.specs.Fit.{one_more, last}
 use Rattle.isotp_receive.specs.StandingReception.{StandingReception, fit_of}
@@ -18,31 +18,32 @@ use Rattle.isotp_receive.proofs.HeardByRole.{completed}
 use Rattle.isotp_receive.proofs.OwnFrames.{IsOwn}
 use Rattle.isotp_receive.proofs.CleanFrames.{Turn, t_single, t_first, t_more, t_last, t_continue_or_wait, t_no_part}
 use Rattle.isotp_receive.proofs.Gathered.{Gathered, one-later, begun, grow, complete}
+use Rattle.isotp_receive.specs.Channels.{dir_of}
 
 -- the positions whose frames are gathered where this stands
-pub data Pending (limit : ℕ) (T : List Entry) (d : Dir) (n : ℕ) : Option StandingReception → List ℕ → Type 0 where
+pub data Pending (limit : ℕ) (T : List Entry) (d : Channel) (n : ℕ) : Option StandingReception → List ℕ → Type 0 where
   nothing : Pending limit T d n None []
   under : {st : StandingReception} {i : ℕ} {cs : List ℕ} → Gathered limit T d n st i cs → Pending limit T d n (Some st) (i ∷ cs)
 
 -- what the frame e at n makes of the direction, where ps were pending: `next` stands, and these messages were told
-pub record Advanced (limit : ℕ) (T : List Entry) (d : Dir) (n : ℕ) (e : Entry) (next : Option StandingReception) (ps : List ℕ) (told : List (List ℕ)) : Type 0 where
+pub record Advanced (limit : ℕ) (T : List Entry) (d : Channel) (n : ℕ) (e : Entry) (next : Option StandingReception) (ps : List ℕ) (told : List (List ℕ)) : Type 0 where
   -- the positions that are pending now: all but n were pending before
   pub left : List ℕ
   pub state : Pending limit T d (suc n) next left
   pub lows : (p : ℕ) → IsIn p left → IsIn p ps ⊎ (p ≡ n)
   -- the messages that it completes, with their positions: none, or one at n that leaves nothing pending
   pub out : List Transfer
-  pub told_out : map {B = Message} (λ g. (g.dir, g.message)) out ≡ map {B = Message} (λ m. (d, m)) told
+  pub told_out : map {B = Message} (λ g. (dir_of g.channel, g.message)) out ≡ map {B = Message} (λ m. (dir_of d, m)) told
   pub each : AllByRecursion (IsTransfer limit T) out
-  pub out_lows : AllByRecursion (λ g. (g.dir ≡ d) × ((p : ℕ) → IsIn p g.positions → IsIn p ps ⊎ (n ≤ p))) out
+  pub out_lows : AllByRecursion (λ g. (g.channel ≡ d) × ((p : ℕ) → IsIn p g.positions → IsIn p ps ⊎ (n ≤ p))) out
   pub out_lasts : AllByRecursion (λ g. last_or 0 g.positions ≡ n) out
   pub out_own : (p : ℕ) → IsGiven p out → IsOwn (role d e)
-  pub shape : (out ≡ []) ⊎ ((g : Transfer) × (out ≡ g ∷ []) × (g.dir ≡ d) × (left ≡ []) × ((p : ℕ) → IsIn p g.positions → p ≤ n))
+  pub shape : (out ≡ []) ⊎ ((g : Transfer) × (out ≡ g ∷ []) × (g.channel ≡ d) × (left ≡ []) × ((p : ℕ) → IsIn p g.positions → p ≤ n))
   -- no position is lost
   pub keeps : (p : ℕ) → IsIn p ps → IsIn p left ⊎ IsGiven p out
   pub here : IsOwn (role d e) → IsIn n left ⊎ IsGiven n out
 
-module _ (limit : ℕ) (T : List Entry) (d : Dir) (n : ℕ) (e : Entry) (at : At T n e) where
+module _ (limit : ℕ) (T : List Entry) (d : Channel) (n : ℕ) (e : Entry) (at : At T n e) where
   -- a frame that completes no message
   keep : (next : Option StandingReception) (ps left : List ℕ) → Pending limit T d (suc n) next left → ((p : ℕ) → IsIn p ps → IsIn p left)
       → ((p : ℕ) → IsIn p left → IsIn p ps ⊎ (p ≡ n)) → (IsOwn (role d e) → IsIn n left) → Advanced limit T d n e next ps []
@@ -62,20 +63,20 @@ module _ (limit : ℕ) (T : List Entry) (d : Dir) (n : ℕ) (e : Entry) (at : At
   }
 
   -- one that completes a message
-  deliver : (ps places : List ℕ) (m : List ℕ) → IsTransfer limit T (record { dir = d; message = m; positions = places }) → last_or 0 places ≡ n
+  deliver : (ps places : List ℕ) (m : List ℕ) → IsTransfer limit T (record { channel = d; message = m; positions = places }) → last_or 0 places ≡ n
       → ((p : ℕ) → IsIn p ps → IsIn p places) → ((p : ℕ) → IsIn p places → IsIn p ps ⊎ (p ≡ n)) → ((p : ℕ) → IsIn p places → p ≤ n)
       → IsIn n places → IsOwn (role d e) → Advanced limit T d n e None ps (m ∷ [])
   deliver ps places m given ends keeps lows most now own = record {
     left = [];
     state = nothing;
     lows = λ p i. absurd i;
-    out = (record { dir = d; message = m; positions = places }) ∷ [];
+    out = (record { channel = d; message = m; positions = places }) ∷ [];
     told_out = refl;
     each = (given, tt);
     out_lows = ((refl, λ p i. elim (lows p i) [ inl a ↦ inl a | inr b ↦ inr (omega arith) ]), tt);
     out_lasts = (ends, tt);
     out_own = λ p i. own;
-    shape = inr (record { dir = d; message = m; positions = places }, refl, refl, refl, most);
+    shape = inr (record { channel = d; message = m; positions = places }, refl, refl, refl, most);
     keeps = λ p i. inr (inl (keeps p i));
     here = λ _. inr (inl now);
   }
@@ -116,7 +117,7 @@ module _ (limit : ℕ) (T : List Entry) (d : Dir) (n : ℕ) (e : Entry) (at : At
         let size_told : length (take st.len (st.bytes ++ bytes)) ≡ st.len = omega (arith, length-take st.len (st.bytes ++ bytes), length-append st.bytes bytes) in
         let most : (p : ℕ) → IsIn p (i ∷ (cs ++ n ∷ [])) → p ≤ n = λ (p : ℕ) (a : IsIn p (i ∷ (cs ++ n ∷ []))).
         elim (is_new p i cs a) [ inl old ↦ (let lt = u.below p old in omega arith) | inr is ↦ omega arith ] in
-        let transfer : IsTransfer limit T (record { dir = d; message = take st.len (st.bytes ++ bytes); positions = i ∷ (cs ++ n ∷ []) }) = record {
+        let transfer : IsTransfer limit T (record { channel = d; message = take st.len (st.bytes ++ bytes); positions = i ∷ (cs ++ n ∷ []) }) = record {
           some = omega arith;
           fits = omega arith;
           rising = rising-append 0 (i ∷ cs) (n ∷ []) u.rising (omega arith, tt)

@@ -4,9 +4,9 @@ use Rattle.std.specs.Prelude.{◌⊎◌}
 use Rattle.std.specs.List.{AllByRecursion}
 use Rattle.std.proofs.lemmas.Bool.{cases_Bool}
 use Rattle.direction.specs.Dir.{Message}
-use Rattle.direction.specs.declared.Dir.{Dir}
+use Rattle.isotp_receive.specs.declared.channel.Channel.{Channel}
 use Rattle.can_log.proofs.Promises.{AllByRecursion-weaker}
-use Rattle.isotp_receive.specs.Trace.{Entry, role, same_direction, At}
+use Rattle.isotp_receive.specs.Trace.{Entry, role, At}
 use Rattle.isotp_receive.specs.Verdict.{messages}
 use Rattle.isotp_receive.specs.Recording.{IsRisingFrom, Carries, Transfer, IsTransfer, IsIn, last_or, AllBefore, AreApart, EachPair, IsGiven, IsRecording, ended_within}
 use Rattle.isotp_receive.proofs.Carried.{all_positions, placed_of, AreCarried, IsCovered, direction-heard}
@@ -15,63 +15,65 @@ use Rattle.isotp_receive.proofs.MessagesOfMore.{messages-append}
 use Rattle.isotp_receive.proofs.PositionLists.{in-append, in-left, in-right, rising-append, last-is-in}
 use Rattle.isotp_receive.proofs.OwnFrames.{IsQuiet, own-other, carries-own, idle-quiet}
 use Rattle.isotp_receive.proofs.Told.{Placed, side, all_told, Rise, heard-side, pair, messages-told, told-rise, merge, told_within, told-take}
+use Rattle.isotp_receive.specs.Channels.{same_channel}
+use Rattle.isotp_receive.specs.Channels.{dir_of}
 
 -- ---- the messages of a direction
 
-abbrev of_dir : Dir → List Transfer → List Transfer
+abbrev of_dir : Channel → List Transfer → List Transfer
 of_dir d [] = []
-of_dir d (g ∷ gs) = cond (same_direction d g.dir) (g ∷ of_dir d gs) (of_dir d gs)
+of_dir d (g ∷ gs) = cond (same_channel d g.channel) (g ∷ of_dir d gs) (of_dir d gs)
 
-carried-of : (limit : ℕ) (T : List Entry) (d : Dir) (gs : List Transfer) → AllByRecursion (IsTransfer limit T) gs → AreCarried limit T d (of_dir d gs)
+carried-of : (limit : ℕ) (T : List Entry) (d : Channel) (gs : List Transfer) → AllByRecursion (IsTransfer limit T) gs → AreCarried limit T d (of_dir d gs)
 carried-of limit T d [] h = tt
-carried-of limit T d (g ∷ gs) h = elim (cases_Bool (same_direction d g.dir)) [
-  | inl t ↦ rw t ((h.0.fits, subst (λ x. Carries T x g.message g.positions) (sym (same d g.dir t)) h.0.carried), carried-of limit T d gs h.1)
+carried-of limit T d (g ∷ gs) h = elim (cases_Bool (same_channel d g.channel)) [
+  | inl t ↦ rw t ((h.0.fits, subst (λ x. Carries T x g.message g.positions) (sym (same d g.channel t)) h.0.carried), carried-of limit T d gs h.1)
   | inr t ↦ rw t (carried-of limit T d gs h.1)
 ]
 
 -- all positions of a message come before those of a later one of its direction
-before : (g h : Transfer) → AreApart g h → g.dir ≡ h.dir → AllBefore g.positions h.positions
+before : (g h : Transfer) → AreApart g h → g.channel ≡ h.channel → AllBefore g.positions h.positions
 before g h a same_side p q i j = elim (a.apart same_side) [
   | inl b ↦ b p q i j
   | inr b ↦ absurd (let lt = b (last_or 0 h.positions) (last_or 0 g.positions) (last-is-in q h.positions j) (last-is-in p g.positions i) in
       let order = a.order in omega arith)
 ]
 
-before-rest : (d : Dir) (g : Transfer) (gs : List Transfer) → d ≡ g.dir → AllByRecursion (AreApart g) gs → AllBefore g.positions (all_positions (of_dir d gs))
+before-rest : (d : Channel) (g : Transfer) (gs : List Transfer) → d ≡ g.channel → AllByRecursion (AreApart g) gs → AllBefore g.positions (all_positions (of_dir d gs))
 before-rest d g [] is h p q i j = absurd j
-before-rest d g (x ∷ gs) is h p q i j = elim (cases_Bool (same_direction d x.dir)) [
+before-rest d g (x ∷ gs) is h p q i j = elim (cases_Bool (same_channel d x.channel)) [
   | inl t ↦ (let k = rw t at j in elim (in-append q x.positions (all_positions (of_dir d gs)) k) [
-    | inl a ↦ before g x h.0 (sym is ∙ same d x.dir t) p q i a
+    | inl a ↦ before g x h.0 (sym is ∙ same d x.channel t) p q i a
     | inr b ↦ before-rest d g gs is h.1 p q i b
   ])
   | inr t ↦ (let k = rw t at j in before-rest d g gs is h.1 p q i k)
 ]
 
-rising-of : (limit : ℕ) (T : List Entry) (d : Dir) (gs : List Transfer) → AllByRecursion (IsTransfer limit T) gs → EachPair AreApart gs
+rising-of : (limit : ℕ) (T : List Entry) (d : Channel) (gs : List Transfer) → AllByRecursion (IsTransfer limit T) gs → EachPair AreApart gs
     → IsRisingFrom 0 (all_positions (of_dir d gs))
 rising-of limit T d [] each pairs = tt
-rising-of limit T d (g ∷ gs) each pairs = elim (cases_Bool (same_direction d g.dir)) [
+rising-of limit T d (g ∷ gs) each pairs = elim (cases_Bool (same_channel d g.channel)) [
   | inl t ↦ rw t (rising-append 0 g.positions (all_positions (of_dir d gs)) each.0.rising (rising-of limit T d gs each.1 pairs.1)
-      (before-rest d g gs (same d g.dir t) pairs.0) (λ q i. omega arith))
+      (before-rest d g gs (same d g.channel t) pairs.0) (λ q i. omega arith))
   | inr t ↦ rw t (rising-of limit T d gs each.1 pairs.1)
 ]
 
-covered : (limit : ℕ) (T : List Entry) (d : Dir) (gs : List Transfer) (p : ℕ) (e : Entry) → AllByRecursion (IsTransfer limit T) gs → At T p e → IsGiven p gs
+covered : (limit : ℕ) (T : List Entry) (d : Channel) (gs : List Transfer) (p : ℕ) (e : Entry) → AllByRecursion (IsTransfer limit T) gs → At T p e → IsGiven p gs
     → IsIn p (all_positions (of_dir d gs)) ⊎ IsQuiet (role d e)
 covered limit T d [] p e each at given = absurd given
-covered limit T d (g ∷ gs) p e each at (inl i) = elim (cases_Bool (same_direction d g.dir)) [
+covered limit T d (g ∷ gs) p e each at (inl i) = elim (cases_Bool (same_channel d g.channel)) [
   | inl t ↦ inl (rw t (in-left p g.positions (all_positions (of_dir d gs)) i))
-  | inr t ↦ inr (inl (own-other d g.dir e t (carries-own T g.dir g.message g.positions p e each.0.carried i at)))
+  | inr t ↦ inr (inl (own-other d g.channel e t (carries-own T g.channel g.message g.positions p e each.0.carried i at)))
 ]
 covered limit T d (g ∷ gs) p e each at (inr i) = elim (covered limit T d gs p e each.1 at i) [
-  | inl j ↦ inl (elim (cases_Bool (same_direction d g.dir)) [
+  | inl j ↦ inl (elim (cases_Bool (same_channel d g.channel)) [
     | inl t ↦ rw t (in-right p g.positions (all_positions (of_dir d gs)) j)
     | inr t ↦ rw t j
   ])
   | inr q ↦ inr q
 ]
 
-cover-of : (limit : ℕ) (T : List Entry) (M : List Message) (d : Dir) (r : IsRecording limit T M) → IsCovered T d 0 (all_positions (of_dir d r.transfers))
+cover-of : (limit : ℕ) (T : List Entry) (M : List Message) (d : Channel) (r : IsRecording limit T M) → IsCovered T d 0 (all_positions (of_dir d r.transfers))
 cover-of limit T M d r p e _ at = elim (r.others p e at) [
   | inl i ↦ covered limit T d r.transfers p e r.each at i
   | inr h ↦ inr (idle-quiet d e h)
@@ -80,7 +82,7 @@ cover-of limit T M d r p e _ at = elim (r.others p e at) [
 -- ---- what a recording tells after any trace: each message at the last of its positions
 
 abbrev pub transfer_place : Transfer → Placed
-transfer_place g = record { place = last_or 0 g.positions; dir = g.dir; message = g.message }
+transfer_place g = record { place = last_or 0 g.positions; channel = g.channel; message = g.message }
 
 transfer-rise : (n : ℕ) (gs : List Transfer) → AllByRecursion (λ g. n ≤ last_or 0 g.positions) gs → EachPair AreApart gs → Rise n (map transfer_place gs)
 transfer-rise n [] least pairs = tt
@@ -88,16 +90,16 @@ transfer-rise n (g ∷ gs) least pairs =
     let later = AllByRecursion-weaker (AreApart g) (λ x. suc (last_or 0 g.positions) ≤ last_or 0 x.positions) (λ x a. (let order = a.order in omega arith)) gs pairs.0 in
     (least.0, transfer-rise (suc (last_or 0 g.positions)) gs later pairs.1)
 
-transfer-side : (d : Dir) (gs : List Transfer) → side d (map transfer_place gs) ≡ placed_of (of_dir d gs)
+transfer-side : (d : Channel) (gs : List Transfer) → side d (map transfer_place gs) ≡ placed_of (of_dir d gs)
 transfer-side d [] = refl
-transfer-side d (g ∷ gs) = elim (cases_Bool (same_direction d g.dir)) [
+transfer-side d (g ∷ gs) = elim (cases_Bool (same_channel d g.channel)) [
   | inl t ↦ rw t (ap (λ l. (last_or 0 g.positions, g.message) ∷ l) (transfer-side d gs))
   | inr t ↦ rw t (transfer-side d gs)
 ]
 
-transfer-pairs : (gs : List Transfer) → map pair (map transfer_place gs) ≡ map (λ g. (g.dir, g.message)) gs
+transfer-pairs : (gs : List Transfer) → map pair (map transfer_place gs) ≡ map (λ g. (dir_of g.channel, g.message)) gs
 transfer-pairs [] = refl
-transfer-pairs (g ∷ gs) = ap (λ l. (g.dir, g.message) ∷ l) (transfer-pairs gs)
+transfer-pairs (g ∷ gs) = ap (λ l. (dir_of g.channel, g.message) ∷ l) (transfer-pairs gs)
 
 pub told-recording : (limit : ℕ) (before T : List Entry) (M : List Message) (r : IsRecording limit T M) → all_told limit 0 before T ≡ map transfer_place r.transfers
 told-recording limit before T M r =
@@ -124,7 +126,7 @@ recording-delivers limit T M r = recording-delivers-behind limit [] T M r
 within-transfers : (k : ℕ) (ts : List Transfer) → map pair (told_within k (map transfer_place ts)) ≡ ended_within k ts
 within-transfers k [] = refl
 within-transfers k (t ∷ ts) = elim (cases_Bool (nat_lt (last_or 0 t.positions) k)) [
-  | inl b ↦ rw b (ap (λ l. (t.dir, t.message) ∷ l) (within-transfers k ts))
+  | inl b ↦ rw b (ap (λ l. (dir_of t.channel, t.message) ∷ l) (within-transfers k ts))
   | inr b ↦ rw b (within-transfers k ts)
 ]
 

@@ -8,7 +8,7 @@ use Rattle.std.proofs.lemmas.Bool.{cases_lt}
 use Rattle.std.proofs.lemmas.List.Elements.{All-from_get_or, recursion_from_All}
 use Rattle.can_log.specs.Frame.{AreBytes}
 use Rattle.direction.specs.Dir.{Message}
-use Rattle.direction.specs.declared.Dir.{Dir}
+use Rattle.isotp_receive.specs.declared.channel.Channel.{Channel}
 use Rattle.can_log.proofs.Promises.{AllByRecursion-append, AllByRecursion-front, AllByRecursion-back}
 use Rattle.isotp_receive.specs.Trace.{Entry, At}
 use Rattle.isotp_receive.specs.Places.{bytes_in_first}
@@ -17,16 +17,18 @@ use Rattle.isotp_receive.specs.Verdict.{VerdictValue, message, began, stored, fl
 use Rattle.isotp_receive.specs.MessageLaws.{MessagesAreFew, MessagesFit, HoldBytes, MessagesHoldBytes}
 use Rattle.isotp_receive.proofs.Readings.{whole_from, first_from}
 use Rattle.isotp_receive.proofs.DeliversLaws.{message-delivers}
+use Rattle.isotp_receive.specs.Channels.{dir_of}
+use Rattle.direction.specs.declared.Dir.{Dir}
 
 -- ---- each message is delivered with a frame
 
 module _ (limit : ℕ) (P : List ℕ → Type 0) (all : List Entry)
-    (each : (past : List Entry) (e : Entry) (later : List Entry) (m : List ℕ) → all ≡ past ++ e ∷ later → Delivers limit (past ++ e ∷ []) (length past) e.dir m → P m) where
+    (each : (past : List Entry) (e : Entry) (later : List Entry) (m : List ℕ) → all ≡ past ++ e ∷ later → Delivers limit (past ++ e ∷ []) (length past) e.channel m → P m) where
   Each : List Message → Type 0
   Each messages = AllByRecursion (λ (x : Message). P x.1) messages
 
   told_each : (past : List Entry) (e : Entry) (later : List Entry) (told : VerdictValue) → all ≡ past ++ e ∷ later → (verdict limit past e).verdict ≡ told
-      → Each (told_message e.dir told)
+      → Each (told_message (dir_of e.channel) told)
   unfolding Each
   told_each past e later (message m) parts is = (each past e later m parts ((message-delivers limit past e m).0 is), tt)
   told_each past e later began parts is = tt
@@ -38,7 +40,7 @@ module _ (limit : ℕ) (P : List ℕ → Type 0) (all : List Entry)
   unfolding Each
   each_message past [] parts = tt
   each_message past (e ∷ rest) parts =
-      AllByRecursion-append (λ (x : Message). P x.1) (told_message e.dir (verdict limit past e).verdict) (messages_after limit (past ++ e ∷ []) rest)
+      AllByRecursion-append (λ (x : Message). P x.1) (told_message (dir_of e.channel) (verdict limit past e).verdict) (messages_after limit (past ++ e ∷ []) rest)
       (told_each past e rest (verdict limit past e).verdict parts refl)
       (each_message (past ++ e ∷ []) rest (parts ∙ sym (append_assoc past (e ∷ []) rest)))
 
@@ -55,7 +57,7 @@ few_after : (limit : ℕ) (past T : List Entry) → length (messages_after limit
 few_after limit past [] = omega arith
 few_after limit past (e ∷ rest) =
     let told = (verdict limit past e).verdict in
-    omega (arith, told_few e.dir told, few_after limit (past ++ e ∷ []) rest, length-append (told_message e.dir told) (messages_after limit (past ++ e ∷ []) rest))
+    omega (arith, told_few (dir_of e.channel) told, few_after limit (past ++ e ∷ []) rest, length-append (told_message (dir_of e.channel) told) (messages_after limit (past ++ e ∷ []) rest))
 
 pub messages_are_few : MessagesAreFew
 messages_are_few limit T = few_after limit [] T
@@ -63,7 +65,7 @@ messages_are_few limit T = few_after limit [] T
 abbrev Fits : ℕ → List ℕ → Type 0
 Fits limit m = (1 ≤ length m) × (length m ≤ limit)
 
-delivered_fits : (limit : ℕ) (T : List Entry) (position : ℕ) (d : Dir) (m : List ℕ) → 64 ≤ limit → Delivers limit T position d m → Fits limit m
+delivered_fits : (limit : ℕ) (T : List Entry) (position : ℕ) (d : Channel) (m : List ℕ) → 64 ≤ limit → Delivers limit T position d m → Fits limit m
 delivered_fits limit T position d m least (in_one_frame one) =
     let whole = whole_from d one.entry m one.kind in
     (whole.some, omega (arith, whole.few))
@@ -73,7 +75,7 @@ delivered_fits limit T position d m least (in_frames c) =
 
 pub messages_fit : MessagesFit
 messages_fit limit T least =
-    each_message limit (Fits limit) T (λ past e later m parts delivers. delivered_fits limit (past ++ e ∷ []) (length past) e.dir m least delivers) [] T refl
+    each_message limit (Fits limit) T (λ past e later m parts delivers. delivered_fits limit (past ++ e ∷ []) (length past) e.channel m least delivers) [] T refl
 
 -- ---- what they hold
 
@@ -90,7 +92,7 @@ frame_at (x ∷ T) (suc position) e stands hold = frame_at T position e stands h
 from_places : (m : List ℕ) → ((place : ℕ) → place < length m → get_or m place 0 < 256) → AreBytes m
 from_places m each = recursion_from_All (λ b. b < 256) m (All-from_get_or (λ b. b < 256) m 0 each)
 
-module _ (limit : ℕ) (T : List Entry) (position : ℕ) (d : Dir) (m : List ℕ) (hold : HoldBytes T) (c : Completes limit T position d m) where
+module _ (limit : ℕ) (T : List Entry) (position : ℕ) (d : Channel) (m : List ℕ) (hold : HoldBytes T) (c : Completes limit T position d m) where
   -- a byte after those of the first frame is in a consecutive one
   behind_first : (place before offset : ℕ) → place < length m → offset < c.fit.is_open.begins.start.rx_dl - 1
       → place ≡ bytes_in_first c.fit.is_open.begins.entry.frame.bytes + (before * (c.fit.is_open.begins.start.rx_dl - 1) + offset) → get_or m place 0 < 256
@@ -112,7 +114,7 @@ module _ (limit : ℕ) (T : List Entry) (position : ℕ) (d : Dir) (m : List ℕ
         behind_first place (rest / (c.fit.is_open.begins.start.rx_dl - 1)) (rest % (c.fit.is_open.begins.start.rx_dl - 1)) inside (mod-lt rest (omega arith)) (omega arith))
   ]
 
-delivered_bytes : (limit : ℕ) (T : List Entry) (position : ℕ) (d : Dir) (m : List ℕ) → HoldBytes T → Delivers limit T position d m → AreBytes m
+delivered_bytes : (limit : ℕ) (T : List Entry) (position : ℕ) (d : Channel) (m : List ℕ) → HoldBytes T → Delivers limit T position d m → AreBytes m
 delivered_bytes limit T position d m hold (in_one_frame one) =
     let lies = (whole_from d one.entry m one.kind).lies in
     let frame = subst AreBytes lies.2 (frame_at T position one.entry one.stands hold) in
@@ -123,5 +125,5 @@ pub messages_hold_bytes : MessagesHoldBytes
 messages_hold_bytes limit T hold = each_message limit AreBytes T
     (λ past e later m parts delivers.
     let front = subst HoldBytes (parts ∙ sym (append_assoc past (e ∷ []) later)) hold in
-    delivered_bytes limit (past ++ e ∷ []) (length past) e.dir m
+    delivered_bytes limit (past ++ e ∷ []) (length past) e.channel m
     (AllByRecursion-front (λ (x : Entry). AreBytes x.frame.bytes) (past ++ e ∷ []) later front) delivers) [] T refl

@@ -2,6 +2,7 @@
 use Rattle.std.proofs.Common.{◌≡◌, ℕ, List, [], ◌∷◌, ◌++◌, refl, sym, ◌∙◌, ap, subst}
 use Rattle.direction.specs.Dir.{Message}
 use Rattle.direction.specs.declared.Dir.{Dir}
+use Rattle.isotp_receive.specs.Channels.{dir_of}
 use Rattle.isotp_receive.specs.Trace.{Entry}
 use Rattle.isotp_receive.specs.Delivers.{Delivers, AreDeliveredBy, AreDeliveredAfter, AreDelivered}
 use Rattle.isotp_receive.specs.Verdict.{VerdictValue, message, began, stored, flowed, dropped, verdict, told_message, messages_after, messages}
@@ -10,7 +11,7 @@ use Rattle.isotp_receive.proofs.DeliversLaws.{message-delivers}
 
 -- ---- a frame
 
-delivered-as : (limit : ℕ) (past : List Entry) (e : Entry) (t : VerdictValue) → (verdict limit past e).verdict ≡ t → AreDeliveredBy limit past e (told_message e.dir t)
+delivered-as : (limit : ℕ) (past : List Entry) (e : Entry) (t : VerdictValue) → (verdict limit past e).verdict ≡ t → AreDeliveredBy limit past e (told_message (dir_of e.channel) t)
 delivered-as limit past e (message bytes) is = (refl, (message-delivers limit past e bytes).0 is)
 delivered-as limit past e began is = λ bytes delivers. let same = sym is ∙ (message-delivers limit past e bytes).1 delivers in absurd (cc)
 delivered-as limit past e stored is = λ bytes delivers. let same = sym is ∙ (message-delivers limit past e bytes).1 delivers in absurd (cc)
@@ -24,10 +25,10 @@ none-told d stored none = refl
 none-told d flowed none = refl
 none-told d (dropped why) none = refl
 
-told-so : (limit : ℕ) (past : List Entry) (e : Entry) (own : List Message) → AreDeliveredBy limit past e own → own ≡ told_message e.dir (verdict limit past e).verdict
-told-so limit past e [] none = none-told e.dir (verdict limit past e).verdict (λ bytes is. none bytes ((message-delivers limit past e bytes).0 is))
+told-so : (limit : ℕ) (past : List Entry) (e : Entry) (own : List Message) → AreDeliveredBy limit past e own → own ≡ told_message (dir_of e.channel) (verdict limit past e).verdict
+told-so limit past e [] none = none-told (dir_of e.channel) (verdict limit past e).verdict (λ bytes is. none bytes ((message-delivers limit past e bytes).0 is))
 told-so limit past e (x ∷ []) one =
-    ap (λ d. (d, x.1) ∷ []) one.0 ∙ ap (told_message e.dir) (sym ((message-delivers limit past e x.1).1 one.1))
+    ap (λ d. (d, x.1) ∷ []) one.0 ∙ ap (told_message (dir_of e.channel)) (sym ((message-delivers limit past e x.1).1 one.1))
 told-so limit past e (x ∷ y ∷ more) two = absurd two
 
 -- ---- all frames
@@ -35,7 +36,7 @@ told-so limit past e (x ∷ y ∷ more) two = absurd two
 all-delivered : (limit : ℕ) (past T : List Entry) → AreDeliveredAfter limit past T (messages_after limit past T)
 all-delivered limit past [] = refl
 all-delivered limit past (e ∷ rest) = (
-  told_message e.dir (verdict limit past e).verdict,
+  told_message (dir_of e.channel) (verdict limit past e).verdict,
   messages_after limit (past ++ e ∷ []) rest,
   refl,
   delivered-as limit past e (verdict limit past e).verdict refl,

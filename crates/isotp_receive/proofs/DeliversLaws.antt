@@ -3,7 +3,7 @@ use Rattle.std.proofs.Common.{◌≡◌, ℕ, suc, ◌+◌, ◌-◌, ◌*◌, �
 use Rattle.std.proofs.Common.{◌∙◌, ap, arith, cond, inl, inr, subst, append_assoc, length-append, length-take}
 use Rattle.std.specs.Prelude.{◌↔◌}
 use Rattle.std.proofs.lemmas.Bool.{le-ltb, le-leb, eq-eqb, cases_lt}
-use Rattle.direction.specs.declared.Dir.{Dir}
+use Rattle.isotp_receive.specs.declared.channel.Channel.{Channel}
 use Rattle.isotp_receive.specs.Trace.{Entry, FirstFrame, FrameRole, single, first, consecutive, continue_or_wait, overflow, no_part, role}
 use Rattle.isotp_receive.specs.Places.{bytes_in_first, bytes_before, consecutive_frames_in, FitsAs, AtPlaces}
 use Rattle.isotp_receive.specs.OnTime.{IsOnTime}
@@ -26,8 +26,8 @@ use Rattle.isotp_receive.proofs.HeardByRole.{completed, completed_by, at_place, 
 
 -- ---- what the verdict tells is what the frame completes
 
-told-at : (limit : ℕ) (T : List Entry) (e : Entry) → placed 0 (verdict limit T e).verdict ≡ at_place 0 (completed (stands limit e.dir T) e.micros (role e.dir e))
-told-at limit T e = ap (λ b. cond b (placed 0 (verdict limit T e).verdict) []) (sym (same-self e.dir)) ∙ told-by-role limit e.dir 0 T e
+told-at : (limit : ℕ) (T : List Entry) (e : Entry) → placed 0 (verdict limit T e).verdict ≡ at_place 0 (completed (stands limit e.channel T) e.micros (role e.channel e))
+told-at limit T e = ap (λ b. cond b (placed 0 (verdict limit T e).verdict) []) (sym (same-self e.channel)) ∙ told-by-role limit e.channel 0 T e
 
 placed-message : (t : VerdictValue) (m : List ℕ) → placed 0 t ≡ (0, m) ∷ [] → t ≡ message m
 placed-message (message x) m h = ap message (ap (λ p. p.1) (cons-head h))
@@ -51,7 +51,7 @@ completed-last wrong_length st bytes m ms h = absurd (cc)
 -- ---- what a frame completes is delivered there, whatever follows
 
 -- the last consecutive frame of what stands
-module _ (limit : ℕ) (d : Dir) (before : List Entry) (e0 : Entry) (s : FirstFrame) (since rest : List Entry) (begins : role d e0 ≡ first s) (opens : is_open limit d s since ≡ true)
+module _ (limit : ℕ) (d : Channel) (before : List Entry) (e0 : Entry) (s : FirstFrame) (since rest : List Entry) (begins : role d e0 ≡ first s) (opens : is_open limit d s since ≡ true)
     (x : Entry) (sequence_number can_dl : ℕ) (bytes : List ℕ) (goes : role d x ≡ consecutive sequence_number can_dl bytes) where
   completes : fit_of (standing_of d s since) x.micros sequence_number can_dl ≡ last
       → Completes limit (before ++ e0 ∷ (since ++ x ∷ rest)) (suc (length before) + length since) d (take s.len ((s.bytes ++ carried d since) ++ bytes))
@@ -105,7 +105,7 @@ module _ (limit : ℕ) (d : Dir) (before : List Entry) (e0 : Entry) (s : FirstFr
         places = whole-at limit d before e0 s since begins opens rest x sequence_number can_dl bytes goes enough ends;
       }
 
-delivered : (limit : ℕ) (T : List Entry) (d : Dir) (e : Entry) (rest : List Entry) (m : List ℕ) (ms : List (List ℕ)) (r : FrameRole) (o : Option StandingReception)
+delivered : (limit : ℕ) (T : List Entry) (d : Channel) (e : Entry) (rest : List Entry) (m : List ℕ) (ms : List (List ℕ)) (r : FrameRole) (o : Option StandingReception)
     → role d e ≡ r → stands limit d T ≡ o → completed o e.micros r ≡ m ∷ ms → Delivers limit (T ++ e ∷ rest) (length T) d m
 delivered limit T d e rest m ms (single x) o is now h = in_one_frame (record { entry = e; stands = get-here T rest e; kind = (let same : x ≡ m = cc in is ∙ ap single same) })
 delivered limit T d e rest m ms (consecutive sequence_number can_dl bytes) None is now h = absurd (cc)
@@ -127,7 +127,7 @@ delivered limit T d e rest m ms no_part o is now h = absurd (cc)
 
 -- ---- what is delivered there, the frame completes
 
-completed-in : (limit : ℕ) (T : List Entry) (d : Dir) (e : Entry) (m : List ℕ) → Completes limit (T ++ e ∷ []) (length T) d m
+completed-in : (limit : ℕ) (T : List Entry) (d : Channel) (e : Entry) (m : List ℕ) → Completes limit (T ++ e ∷ []) (length T) d m
     → completed (stands limit d T) e.micros (role d e) ≡ m ∷ []
 unfolding completes
 completed-in limit T d e m c =
@@ -171,7 +171,7 @@ completed-in limit T d e m c =
     let told : completed_by (fit_of st e.micros next.sequence_number next.can_dl) st next.bytes ≡ m ∷ [] = ap (λ j. completed_by j st next.bytes) j ∙ ap (λ x. x ∷ []) same in
     ap (λ x. completed x e.micros (role d e)) now ∙ ap (completed (Some st) e.micros) goes ∙ told
 
-completed-all : (limit : ℕ) (T : List Entry) (d : Dir) (e : Entry) (m : List ℕ) → Delivers limit (T ++ e ∷ []) (length T) d m
+completed-all : (limit : ℕ) (T : List Entry) (d : Channel) (e : Entry) (m : List ℕ) → Delivers limit (T ++ e ∷ []) (length T) d m
     → completed (stands limit d T) e.micros (role d e) ≡ m ∷ []
 completed-all limit T d e m (in_one_frame one) =
     let is_e : one.entry ≡ e = get-same (T ++ e ∷ []) (length T) one.entry e one.stands (get-here T [] e) in
@@ -181,12 +181,12 @@ completed-all limit T d e m (in_frames c) = completed-in limit T d e m c
 
 -- ---- both together
 
-pub delivers-there : (limit : ℕ) (T rest : List Entry) (e : Entry) (m : List ℕ) → (verdict limit T e).verdict ≡ message m → Delivers limit (T ++ e ∷ rest) (length T) e.dir m
+pub delivers-there : (limit : ℕ) (T rest : List Entry) (e : Entry) (m : List ℕ) → (verdict limit T e).verdict ≡ message m → Delivers limit (T ++ e ∷ rest) (length T) e.channel m
 delivers-there limit T rest e m h =
-    let w = place-message (completed (stands limit e.dir T) e.micros (role e.dir e)) m (sym (told-at limit T e) ∙ ap (placed 0) h) in
-    delivered limit T e.dir e rest m w.0 (role e.dir e) (stands limit e.dir T) refl refl w.1
+    let w = place-message (completed (stands limit e.channel T) e.micros (role e.channel e)) m (sym (told-at limit T e) ∙ ap (placed 0) h) in
+    delivered limit T e.channel e rest m w.0 (role e.channel e) (stands limit e.channel T) refl refl w.1
 
-pub message-delivers : (limit : ℕ) (T : List Entry) (e : Entry) (m : List ℕ) → ((verdict limit T e).verdict ≡ message m) ↔ Delivers limit (T ++ e ∷ []) (length T) e.dir m
+pub message-delivers : (limit : ℕ) (T : List Entry) (e : Entry) (m : List ℕ) → ((verdict limit T e).verdict ≡ message m) ↔ Delivers limit (T ++ e ∷ []) (length T) e.channel m
 message-delivers limit T e m = (delivers-there limit T [] e m, from) where
-  from : Delivers limit (T ++ e ∷ []) (length T) e.dir m → (verdict limit T e).verdict ≡ message m
-  from h = placed-message (verdict limit T e).verdict m (told-at limit T e ∙ ap (at_place 0) (completed-all limit T e.dir e m h))
+  from : Delivers limit (T ++ e ∷ []) (length T) e.channel m → (verdict limit T e).verdict ≡ message m
+  from h = placed-message (verdict limit T e).verdict m (told-at limit T e ∙ ap (at_place 0) (completed-all limit T e.channel e m h))

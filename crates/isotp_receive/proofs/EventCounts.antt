@@ -7,9 +7,9 @@ use Rattle.std.specs.Option.{option_len}
 use Rattle.std.proofs.lemmas.Bool.{cases_Bool, cond_both}
 use Rattle.std.proofs.lemmas.List.{append-nil}
 use Rattle.std.proofs.lemmas.List.Sums.{sum_by-append}
-use Rattle.direction.specs.Dir.{other_direction}
-use Rattle.direction.specs.declared.Dir.{Dir}
+use Rattle.isotp_receive.specs.Channels.{other_channel}
 use Rattle.direction.specs.declared.Dir.TheVariants as dir
+use Rattle.isotp_receive.specs.declared.channel.Channel.TheVariants.{Tester, Unit, Functional}
 use Rattle.isotp_pdu.specs.Layout.{Layout}
 use Rattle.isotp_pdu.specs.Layout as layout
 use Rattle.isotp_pdu.specs.Reading.{layout_of}
@@ -24,8 +24,16 @@ use Rattle.isotp_receive.specs.Fit.{Fit, late, wrong_number, wrong_length, one_m
 use Rattle.isotp_receive.specs.StandingReception.{StandingReception, fit_of, stands}
 use Rattle.isotp_receive.specs.Verdict.{VerdictValue, message, began, stored, flowed, dropped, EventValue, verdict, refused, ended_as, on_fit, on_layout, on_consecutive, on_flow_control}
 use Rattle.isotp_receive.specs.CleanTrace.{IsKept, EachClean, IsClean}
-use Rattle.isotp_receive.specs.Events.{events_after, is_dropped, dropped_in, ended_in, unfinished_in, oversize_in, too_long_in}
+use Rattle.isotp_receive.specs.Events.{announced_by, events_after, is_dropped, dropped_in, ended_in, unfinished_in, oversize_in, too_long_in}
 use Rattle.isotp_receive.specs.MessageLaws.{EventsGoOn, EventsAreAsMany, TooLongIsAnnounced, KeptIsWithin, CleanIsCounted}
+use Rattle.isotp_receive.specs.Channels.{dir_of}
+use Rattle.isotp_receive.specs.Channels.{channel_of}
+use Rattle.isotp_receive.specs.Trace.{layout_in}
+use Rattle.isotp_receive.specs.declared.event.Reason.{Reason}
+use Rattle.direction.specs.declared.Dir.{Dir}
+use Rattle.direction.specs.Dir.{other_direction}
+use Rattle.isotp_receive.specs.Channels.{layout_on}
+use Rattle.isotp_receive.specs.declared.channel.Channel.{Channel}
 
 -- ---- a trace that goes on
 
@@ -129,9 +137,9 @@ clean_counts_none limit T clean =
 counts_none_is_clean : (limit : ℕ) (T : List Entry) → (dropped_in limit T ≡ 0) × (ended_in limit T ≡ 0) × (unfinished_in limit T ≡ 0) → IsClean limit T
 counts_none_is_clean limit T counts = record { each = each_clean limit [] T counts.0 counts.1; finished = finished }
   where
-    finished : (d : Dir) → stands limit d T ≡ None
-    finished dir.Tester = empty_option (stands limit dir.Tester T) (omega (arith, counts.2))
-    finished dir.Unit = empty_option (stands limit dir.Unit T) (omega (arith, counts.2))
+    finished : (d : Dir) → stands limit (channel_of d) T ≡ None
+    finished dir.Tester = empty_option (stands limit (channel_of dir.Tester) T) (omega (arith, counts.2))
+    finished dir.Unit = empty_option (stands limit (channel_of dir.Unit) T) (omega (arith, counts.2))
 
 pub clean_is_counted : CleanIsCounted
 clean_is_counted limit T = (clean_counts_none limit T, counts_none_is_clean limit T)
@@ -163,22 +171,39 @@ flow_length d (Some standing) Overflow =
     cond_both (standing.taken == 0) (record { ended = ended_as cause.Overflow d (Some standing); verdict = flowed }) (refused None reason.FlowUnexpected)
     NoLength (λ _. refl) (λ _. refl)
 
-layout_length : (limit : ℕ) (d : Dir) (own others : Option StandingReception) (micros : ℕ) (r : Result Layout PduFault)
+-- the length that a reason tells
+abbrev told_by : Result Layout Reason → Option ℕ
+told_by (Ok said) = None
+told_by (Err why) = announced_by why
+
+-- the reason why a frame says nothing tells none
+none_told : (c : Channel) (r : Result Layout PduFault) → told_by (layout_on c r) ≡ None
+none_told Tester (Ok said) = refl
+none_told Tester (Err fault) = refl
+none_told Unit (Ok said) = refl
+none_told Unit (Err fault) = refl
+none_told Functional (Ok (layout.single whole)) = refl
+none_told Functional (Ok (layout.first announced rx_dl bytes)) = refl
+none_told Functional (Ok (layout.consecutive number can_dl bytes)) = refl
+none_told Functional (Ok (layout.flow_control status)) = refl
+none_told Functional (Err fault) = refl
+
+layout_length : (limit : ℕ) (d : Dir) (own others : Option StandingReception) (micros : ℕ) (r : Result Layout Reason) → told_by r ≡ None
     → too_long_in (on_layout limit d own others micros r).verdict ≡ oversize_in limit r
-layout_length limit d own others micros (Ok (layout.single whole)) = refl
-layout_length limit d own others micros (Ok (layout.first announced rx_dl bytes)) = by_test (nat_le announced limit)
+layout_length limit d own others micros (Ok (layout.single whole)) short = refl
+layout_length limit d own others micros (Ok (layout.first announced rx_dl bytes)) short = by_test (nat_le announced limit)
   where
     by_test : (within : Bool) → too_long_in (cond within began (dropped (reason.TooLong announced))) ≡ cond within None (Some announced)
     by_test true = refl
     by_test false = refl
-layout_length limit d own others micros (Ok (layout.consecutive number can_dl bytes)) = consecutive_length d own micros number can_dl bytes
-layout_length limit d own others micros (Ok (layout.flow_control status)) = flow_length (other_direction d) others status
-layout_length limit d own others micros (Err fault) = refl
+layout_length limit d own others micros (Ok (layout.consecutive number can_dl bytes)) short = consecutive_length d own micros number can_dl bytes
+layout_length limit d own others micros (Ok (layout.flow_control status)) short = flow_length (other_direction d) others status
+layout_length limit d own others micros (Err why) short = short
 
 pub too_long_is_announced : TooLongIsAnnounced
-unfolding verdict
+unfolding verdict layout_in
 too_long_is_announced limit T e =
-    layout_length limit e.dir (stands limit e.dir T) (stands limit (other_direction e.dir) T) e.micros (layout_of e.frame)
+    layout_length limit (dir_of e.channel) (stands limit e.channel T) (stands limit (other_channel e.channel) T) e.micros (layout_in e) (none_told e.channel (layout_of e.frame))
 
 -- and a frame that is not dropped announces no such length
 kept_is_short : (told : VerdictValue) → IsKept told → too_long_in told ≡ None

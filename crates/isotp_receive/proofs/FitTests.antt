@@ -3,11 +3,11 @@ use Rattle.std.proofs.Common.{◌≡◌, ℕ, ◌+◌, ◌-◌, ◌%◌, ◌<◌
 use Rattle.std.proofs.Common.{refl, sym, ◌∙◌, cond}
 use Rattle.std.specs.Prelude.{not}
 use Rattle.std.proofs.lemmas.Bool.{and_parts, ltb-true, ltb-false, leb-true, eqb-true}
-use Rattle.direction.specs.declared.Dir.{Dir}
 use Rattle.isotp_receive.specs.OnTime.{n_cr}
 use Rattle.isotp_receive.specs.Fit.{Fit, late, wrong_number, wrong_length, one_more, last}
 use Rattle.isotp_receive.specs.StandingReception.{StandingReception, is_on_time, expected, has_length, stays_incomplete, fit_of, is_next}
 use Rattle.isotp_receive.specs.Verdict.{message, on_fit, on_consecutive}
+use Rattle.direction.specs.declared.Dir.{Dir}
 
 -- what the tests make of it: whether it is on time, of the expected number, of a length that fits, and not the last
 abbrev pub by_tests : Bool → Bool → Bool → Bool → Fit

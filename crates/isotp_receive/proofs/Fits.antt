@@ -2,7 +2,7 @@
 use Rattle.std.proofs.Common.{◌≡◌, ℕ, ◌+◌, ◌-◌, ◌*◌, ◌%◌, ◌<◌, ◌≤◌, true, nat_lt, nat_le, ◌==◌, ◌&&◌, cond, ◌∙◌, ap, arith, inl, inr}
 use Rattle.std.specs.Prelude.{IsTrue, ◌↔◌}
 use Rattle.std.proofs.lemmas.Bool.{and_parts, leb-true, eqb-true, lt-ltb, le-ltb, and_from, le-leb, eq-eqb, cases_lt}
-use Rattle.direction.specs.declared.Dir.{Dir}
+use Rattle.isotp_receive.specs.declared.channel.Channel.{Channel}
 use Rattle.isotp_receive.specs.Trace.{Entry, FirstFrame, first, role}
 use Rattle.isotp_receive.specs.Places.{bytes_in_first, IsConsecutiveCount, FitsAs}
 use Rattle.isotp_receive.specs.StandingReception.{carried_after, fits_length}
@@ -19,7 +19,7 @@ fits-last len r have dl a b low high =
     (ap (λ t. cond t (dl == r) (nat_le (1 + (len - have)) dl && nat_le dl r)) (le-ltb _ _ b) ∙ and_from _ _ (le-leb _ _ low) (le-leb _ _ high))
 
 -- the bytes that have come, by the places of the first frame
-pub room-join : (d : Dir) (e : Entry) (s : FirstFrame) (k : ℕ) → role d e ≡ first s → carried_after s k ≡ bytes_in_first e.frame.bytes + k * (s.rx_dl - 1)
+pub room-join : (d : Channel) (e : Entry) (s : FirstFrame) (k : ℕ) → role d e ≡ first s → carried_after s k ≡ bytes_in_first e.frame.bytes + k * (s.rx_dl - 1)
 room-join d e s k h = (let from = first_from d e s h in omega arith)
 
 module _ (f r len n k sequence_number dl : ℕ) (least : IsConsecutiveCount f r len n) (below : k < n) where

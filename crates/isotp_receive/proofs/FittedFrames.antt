@@ -3,11 +3,8 @@ use Rattle.std.proofs.Common.{◌≡◌, ℕ, ◌+◌, ◌-◌, ◌*◌, ◌%◌
 use Rattle.std.proofs.Common.{sym, ◌∙◌, ap, arith, inl, inr, subst}
 use Rattle.std.specs.Prelude.{◌≢◌}
 use Rattle.std.proofs.lemmas.Bool.{lt-ltb, ltb-true, eq-eqb, eqb-true, ne_eqb, cases_Bool, false≢true, false_from_ne_true}
-use Rattle.direction.specs.declared.Dir.{Dir}
 use Rattle.isotp_pdu.specs.Layout.{Layout}
 use Rattle.isotp_pdu.specs.Layout as layout
-use Rattle.isotp_pdu.specs.Reading.{layout_of}
-use Rattle.isotp_pdu.specs.declared.PduFault.{PduFault}
 use Rattle.isotp_receive.specs.declared.event.Cause.{Cause}
 use Rattle.isotp_receive.specs.declared.event.Cause.TheVariants as cause
 use Rattle.isotp_receive.specs.declared.event.Reason.TheVariants as reason
@@ -30,10 +27,14 @@ use Rattle.isotp_receive.proofs.ConsecutiveCounts.{below-count}
 use Rattle.isotp_receive.proofs.OpenPositions.{stands-there}
 use Rattle.isotp_receive.proofs.BytesAtPlaces.{come-by-places}
 use Rattle.isotp_receive.proofs.DeliversLaws.{message-delivers}
+use Rattle.isotp_receive.specs.Channels.{dir_of}
+use Rattle.isotp_receive.specs.Trace.{layout_in}
+use Rattle.isotp_receive.specs.declared.event.Reason.{Reason}
+use Rattle.direction.specs.declared.Dir.{Dir}
 
 -- ---- the verdict on a consecutive frame is by what stands for its direction
 
-read-consecutive : (line micros sequence_number can_dl : ℕ) (bytes : List ℕ) (x : Result Layout PduFault)
+read-consecutive : (line micros sequence_number can_dl : ℕ) (bytes : List ℕ) (x : Result Layout Reason)
     → own_role line micros x ≡ consecutive sequence_number can_dl bytes → x ≡ Ok (layout.consecutive sequence_number can_dl bytes)
 read-consecutive line micros sequence_number can_dl bytes (Ok (layout.consecutive n dl bs)) h =
     let is_n : n ≡ sequence_number = cc in
@@ -45,12 +46,12 @@ read-consecutive line micros sequence_number can_dl bytes (Ok (layout.first len 
 read-consecutive line micros sequence_number can_dl bytes (Ok (layout.flow_control s)) h = absurd (cc)
 read-consecutive line micros sequence_number can_dl bytes (Err f) h = absurd (cc)
 
-pub on-own : (limit : ℕ) (T : List Entry) (e : Entry) (sequence_number can_dl : ℕ) (bytes : List ℕ) → role e.dir e ≡ consecutive sequence_number can_dl bytes
-    → verdict limit T e ≡ on_consecutive e.dir (stands limit e.dir T) e.micros sequence_number can_dl bytes
+pub on-own : (limit : ℕ) (T : List Entry) (e : Entry) (sequence_number can_dl : ℕ) (bytes : List ℕ) → role e.channel e ≡ consecutive sequence_number can_dl bytes
+    → verdict limit T e ≡ on_consecutive (dir_of e.channel) (stands limit e.channel T) e.micros sequence_number can_dl bytes
 unfolding verdict role
 on-own limit T e sequence_number can_dl bytes h =
-    let own = rw (same-self e.dir) at h in
-    let read = read-consecutive e.line e.micros sequence_number can_dl bytes (layout_of e.frame) own in
+    let own = rw (same-self e.channel) at h in
+    let read = read-consecutive e.line e.micros sequence_number can_dl bytes (layout_in e) own in
     rw read refl
 
 pub ended-is : (d : Dir) (s : FirstFrame) (st : StandingReception) (c : Cause) → st.line ≡ s.line → st.len ≡ s.len → ended_as c d (Some st) ≡ Some (ended_by d s c)
@@ -59,9 +60,9 @@ ended-is d s st c line len =
     ∙ ap (λ n. Some (record { dir = d; begun_line = s.line; len = n; cause = c })) len
 
 module _ (limit : ℕ) (T : List Entry) (e : Entry) (i k sequence_number can_dl : ℕ) (bytes : List ℕ)
-    (goes : role e.dir e ≡ consecutive sequence_number can_dl bytes) (o : IsOpenBefore limit T e e.dir i k) where
+    (goes : role e.channel e ≡ consecutive sequence_number can_dl bytes) (o : IsOpenBefore limit T e e.channel i k) where
   abbrev pub OnTime : Type 0
-  OnTime = IsOnTime (T ++ e ∷ []) e.dir i (length T) e
+  OnTime = IsOnTime (T ++ e ∷ []) e.channel i (length T) e
 
   abbrev pub Fits : Type 0
   Fits = FitsAs (bytes_in_first o.begins.entry.frame.bytes) o.begins.start.rx_dl o.begins.start.len o.count (k + 1) sequence_number can_dl
@@ -70,7 +71,7 @@ module _ (limit : ℕ) (T : List Entry) (e : Entry) (i k sequence_number can_dl 
 
   record Meets : Type 0 where
     st : StandingReception
-    is : verdict limit T e ≡ on_fit e.dir st (fit_of st e.micros sequence_number can_dl) sequence_number bytes
+    is : verdict limit T e ≡ on_fit (dir_of e.channel) st (fit_of st e.micros sequence_number can_dl) sequence_number bytes
     line : st.line ≡ o.begins.start.line
     len : st.len ≡ o.begins.start.len
     next : expected st ≡ (k + 1) % 16
@@ -83,15 +84,15 @@ module _ (limit : ℕ) (T : List Entry) (e : Entry) (i k sequence_number can_dl 
 
   meets : Meets
   meets =
-      let d = e.dir in
+      let d = e.channel in
       let s = o.begins.start in
       let f = bytes_in_first o.begins.entry.frame.bytes in
       let w = stands-there limit d T (e ∷ []) i k o in
       let n = consecutive_frames_in d w.since in
       let st = standing_of d s w.since in
       let now : stands limit d T ≡ Some st = ap (stands limit d) w.splits ∙ open-stands-here limit d w.before w.since o.begins.entry s o.begins.kind w.opens in
-      let on : verdict limit T e ≡ on_consecutive d (Some st) e.micros sequence_number can_dl bytes =
-      on-own limit T e sequence_number can_dl bytes goes ∙ ap (λ x. on_consecutive d x e.micros sequence_number can_dl bytes) now in
+      let on : verdict limit T e ≡ on_consecutive (dir_of d) (Some st) e.micros sequence_number can_dl bytes =
+      on-own limit T e sequence_number can_dl bytes goes ∙ ap (λ x. on_consecutive (dir_of d) x e.micros sequence_number can_dl bytes) now in
       let whole : w.before ++ o.begins.entry ∷ (w.since ++ e ∷ []) ≡ T ++ e ∷ [] = regrouped T (e ∷ []) w.before w.since o.begins.entry w.splits in
       let ends = split-length T w.before w.since o.begins.entry w.splits in
       let ref = refers d w.before o.begins.entry s w.since (e ∷ []) o.begins.kind in
@@ -125,16 +126,16 @@ module _ (limit : ℕ) (T : List Entry) (e : Entry) (i k sequence_number can_dl 
       }
 
   -- so it fits
-  fits-so : (m : Meets) (f : Fit) → fit_of m.st e.micros sequence_number can_dl ≡ f → verdict limit T e ≡ on_fit e.dir m.st f sequence_number bytes
-  fits-so m f h = m.is ∙ ap (λ x. on_fit e.dir m.st x sequence_number bytes) h
+  fits-so : (m : Meets) (f : Fit) → fit_of m.st e.micros sequence_number can_dl ≡ f → verdict limit T e ≡ on_fit (dir_of e.channel) m.st f sequence_number bytes
+  fits-so m f h = m.is ∙ ap (λ x. on_fit (dir_of e.channel) m.st x sequence_number bytes) h
 
   -- and the reception that it ended
-  ends-by : (m : Meets) (c : Cause) → ended_as c e.dir (Some m.st) ≡ Some (ended_by e.dir o.begins.start c)
-  ends-by m c = ended-is e.dir o.begins.start m.st c m.line m.len
+  ends-by : (m : Meets) (c : Cause) → ended_as c (dir_of e.channel) (Some m.st) ≡ Some (ended_by (dir_of e.channel) o.begins.start c)
+  ends-by m c = ended-is (dir_of e.channel) o.begins.start m.st c m.line m.len
 
   -- ---- the verdict is that of the row
 
-  pub late : (OnTime → ⊥) → verdict limit T e ≡ refused (Some (ended_by e.dir o.begins.start cause.Late)) reason.NextLate
+  pub late : (OnTime → ⊥) → verdict limit T e ≡ refused (Some (ended_by (dir_of e.channel) o.begins.start cause.Late)) reason.NextLate
   late off =
       let m = meets in
       let off_time = false_from_ne_true (is_on_time m.st e.micros) (λ t. off (m.time_from t)) in
@@ -142,16 +143,16 @@ module _ (limit : ℕ) (T : List Entry) (e : Entry) (i k sequence_number can_dl 
       ∙ ap (λ x. refused x reason.NextLate) (ends-by m cause.Late)
 
   pub number : OnTime → sequence_number ≢ (k + 1) % 16
-      → verdict limit T e ≡ refused (Some (ended_by e.dir o.begins.start cause.Sequence)) (reason.NextSequence ((k + 1) % 16) sequence_number)
+      → verdict limit T e ≡ refused (Some (ended_by (dir_of e.channel) o.begins.start cause.Sequence)) (reason.NextSequence ((k + 1) % 16) sequence_number)
   number on apart =
       let m = meets in
       let other = ne_eqb sequence_number (expected m.st) (λ same. apart (same ∙ m.next)) in
       fits-so m fit.wrong_number (is-wrong-number m.st e.micros sequence_number can_dl (m.time_to on) other)
       ∙ ap (λ x. refused x (reason.NextSequence (expected m.st) sequence_number)) (ends-by m cause.Sequence)
-      ∙ ap (λ x. refused (Some (ended_by e.dir o.begins.start cause.Sequence)) (reason.NextSequence x sequence_number)) m.next
+      ∙ ap (λ x. refused (Some (ended_by (dir_of e.channel) o.begins.start cause.Sequence)) (reason.NextSequence x sequence_number)) m.next
 
   pub size : OnTime → sequence_number ≡ (k + 1) % 16 → (Fits → ⊥)
-      → verdict limit T e ≡ refused (Some (ended_by e.dir o.begins.start cause.Length)) reason.NextLength
+      → verdict limit T e ≡ refused (Some (ended_by (dir_of e.channel) o.begins.start cause.Length)) reason.NextLength
   size on number apart =
       let m = meets in
       let expected_one = eq-eqb sequence_number (expected m.st) (number ∙ sym m.next) in
@@ -169,11 +170,11 @@ module _ (limit : ℕ) (T : List Entry) (e : Entry) (i k sequence_number can_dl 
 
   -- ---- and it has a row
 
-  last-row : (whole : List ℕ) → Delivers limit (T ++ e ∷ []) (length T) e.dir whole → (a : EventValue) × HasVerdict limit T e a
+  last-row : (whole : List ℕ) → Delivers limit (T ++ e ∷ []) (length T) e.channel whole → (a : EventValue) × HasVerdict limit T e a
   last-row whole (in_frames c) = (record { ended = None; verdict = message whole }, last_frame whole c)
   last-row whole (in_one_frame one) =
       let is_e : one.entry ≡ e = get-same (T ++ e ∷ []) (length T) one.entry e one.stands (get-here T [] e) in
-      let both : single whole ≡ consecutive sequence_number can_dl bytes = sym one.kind ∙ ap (role e.dir) is_e ∙ goes in
+      let both : single whole ≡ consecutive sequence_number can_dl bytes = sym one.kind ∙ ap (role e.channel) is_e ∙ goes in
       absurd (cc)
 
   so : (f : Fit)

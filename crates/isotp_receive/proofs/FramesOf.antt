@@ -5,13 +5,11 @@ use Rattle.std.specs.Prelude.{◌⊎◌}
 use Rattle.std.specs.List.{AllByRecursion}
 use Rattle.std.proofs.lemmas.Bool.{cases_Bool, cases_lt}
 use Rattle.direction.specs.Dir.{Message}
-use Rattle.direction.specs.declared.Dir.{Dir}
+use Rattle.isotp_receive.specs.declared.channel.Channel.{Channel}
 use Rattle.can_log.proofs.Promises.{AllByRecursion-append, AllByRecursion-both}
-use Rattle.isotp_pdu.specs.declared.PduFault.{PduFault}
 use Rattle.isotp_pdu.specs.Layout.{Layout}
 use Rattle.isotp_pdu.specs.Layout as layout
-use Rattle.isotp_pdu.specs.Reading.{layout_of}
-use Rattle.isotp_receive.specs.Trace.{Entry, FirstFrame, ConsecutiveFrameAt, single, first, role, same_direction, At}
+use Rattle.isotp_receive.specs.Trace.{Entry, FirstFrame, ConsecutiveFrameAt, single, first, role, At}
 use Rattle.isotp_receive.specs.Places.{consecutive_by}
 use Rattle.isotp_receive.specs.Delivers.{Completes, Delivers, in_one_frame, in_frames}
 use Rattle.isotp_receive.specs.Verdict.{VerdictValue, message, began, stored, flowed, dropped, verdict}
@@ -27,18 +25,21 @@ use Rattle.isotp_receive.proofs.DeliversLaws.{delivers-there}
 use Rattle.isotp_receive.proofs.Told.{Placed, tag, all_told}
 use Rattle.isotp_receive.proofs.OwnFrames.{IsOwn, own-other, carries-own, idle-own}
 use Rattle.isotp_receive.proofs.Delivered.{transfer_place, told-recording}
+use Rattle.isotp_receive.specs.Channels.{same_channel}
+use Rattle.isotp_receive.specs.Trace.{layout_in}
+use Rattle.isotp_receive.specs.declared.event.Reason.{Reason}
 
 -- ---- each message is delivered at the last of its positions
 
 DeliveredAt : ℕ → List Entry → Placed → Type 0
-DeliveredAt limit T x = Delivers limit T x.place x.dir x.message
+DeliveredAt limit T x = Delivers limit T x.place x.channel x.message
 
 one-delivered : (limit : ℕ) (T past rest : List Entry) (e : Entry) (n : ℕ) (t : VerdictValue) → (verdict limit past e).verdict ≡ t → n ≡ length past → T ≡ past ++ e ∷ rest
-    → AllByRecursion (DeliveredAt limit T) (tag e.dir (placed n t))
+    → AllByRecursion (DeliveredAt limit T) (tag e.channel (placed n t))
 unfolding DeliveredAt
 one-delivered limit T past rest e n (message m) is place whole = (
-  subst (λ w. Delivers limit w n e.dir m) (sym whole)
-      (subst (λ p. Delivers limit (past ++ e ∷ rest) p e.dir m) (sym place) (delivers-there limit past rest e m is)),
+  subst (λ w. Delivers limit w n e.channel m) (sym whole)
+      (subst (λ p. Delivers limit (past ++ e ∷ rest) p e.channel m) (sym place) (delivers-there limit past rest e m is)),
   tt,
 )
 one-delivered limit T past rest e n began is place whole = tt
@@ -49,12 +50,12 @@ one-delivered limit T past rest e n (dropped r) is place whole = tt
 told-delivered : (limit : ℕ) (T : List Entry) (n : ℕ) (past es : List Entry) → n ≡ length past → T ≡ past ++ es → AllByRecursion (DeliveredAt limit T) (all_told limit n past es)
 told-delivered limit T n past [] place whole = tt
 told-delivered limit T n past (e ∷ es) place whole =
-    AllByRecursion-append (DeliveredAt limit T) (tag e.dir (placed n (verdict limit past e).verdict)) (all_told limit (suc n) (past ++ e ∷ []) es)
+    AllByRecursion-append (DeliveredAt limit T) (tag e.channel (placed n (verdict limit past e).verdict)) (all_told limit (suc n) (past ++ e ∷ []) es)
     (one-delivered limit T past es e n (verdict limit past e).verdict refl place whole)
     (told-delivered limit T (suc n) (past ++ e ∷ []) es (omega (arith, length-append past (e ∷ []))) (whole ∙ sym (append_assoc past (e ∷ []) es)))
 
 AtItsLast : ℕ → List Entry → Transfer → Type 0
-AtItsLast limit T t = Delivers limit T (last_or 0 t.positions) t.dir t.message
+AtItsLast limit T t = Delivers limit T (last_or 0 t.positions) t.channel t.message
 
 by-transfer : (limit : ℕ) (T : List Entry) (ts : List Transfer) → AllByRecursion (DeliveredAt limit T) (map transfer_place ts) → AllByRecursion (AtItsLast limit T) ts
 unfolding DeliveredAt AtItsLast
@@ -72,7 +73,7 @@ record Other (limit : ℕ) (T : List Entry) (t : Transfer) (p : ℕ) : Type 0 wh
   x : Transfer
   is : IsTransfer limit T x
   given : IsIn p x.positions
-  apart : t.dir ≡ x.dir → AllBefore t.positions x.positions ⊎ AllBefore x.positions t.positions
+  apart : t.channel ≡ x.channel → AllBefore t.positions x.positions ⊎ AllBefore x.positions t.positions
 
 -- a position that was given is the message's own, or another's
 Shares : ℕ → List Entry → List Transfer → Transfer → Type 0
@@ -95,20 +96,20 @@ shares limit T (t ∷ ts) each pairs = (
   ]) ts (shares limit T ts each.1 pairs.1) pairs.0,
 )
 
-own-within : (limit : ℕ) (T : List Entry) (ts : List Transfer) (t : Transfer) → Shares limit T ts t → ((p : ℕ) (e : Entry) → At T p e → IsGiven p ts ⊎ IsIdle (layout_of e.frame))
-    → (i p x : ℕ) (e : Entry) → IsIn i t.positions → IsIn p t.positions → i ≤ x → x ≤ p → At T x e → IsOwn (role t.dir e) → IsIn x t.positions
+own-within : (limit : ℕ) (T : List Entry) (ts : List Transfer) (t : Transfer) → Shares limit T ts t → ((p : ℕ) (e : Entry) → At T p e → IsGiven p ts ⊎ IsIdle (layout_in e))
+    → (i p x : ℕ) (e : Entry) → IsIn i t.positions → IsIn p t.positions → i ≤ x → x ≤ p → At T x e → IsOwn (role t.channel e) → IsIn x t.positions
 unfolding Shares
 own-within limit T ts t shared others i p x e first_in last_in low high at own = elim (others x e at) [
-  | inr idle ↦ absurd (idle-own t.dir e idle own)
+  | inr idle ↦ absurd (idle-own t.channel e idle own)
   | inl given ↦ elim (shared x given) [
     | inl mine ↦ mine
-    | inr other ↦ elim (cases_Bool (same_direction t.dir other.x.dir)) [
-      | inl s ↦ elim (other.apart (same t.dir other.x.dir s)) [
+    | inr other ↦ elim (cases_Bool (same_channel t.channel other.x.channel)) [
+      | inl s ↦ elim (other.apart (same t.channel other.x.channel s)) [
         | inl b ↦ absurd (let less = b p x last_in other.given in omega arith)
         | inr b ↦ absurd (let less = b x i other.given first_in in omega arith)
       ]
-      | inr s ↦ absurd (let its = carries-own T other.x.dir other.x.message other.x.positions x e other.is.carried other.given at in
-          let none = own-other t.dir other.x.dir e s its in rw none at own)
+      | inr s ↦ absurd (let its = carries-own T other.x.channel other.x.message other.x.positions x e other.is.carried other.given at in
+          let none = own-other t.channel other.x.channel e s its in rw none at own)
     ]
   ]
 ]
@@ -116,13 +117,13 @@ own-within limit T ts t shared others i p x e first_in last_in low high at own =
 -- ---- the frames of a segmented message
 
 -- no other frame is there
-not-consecutive : (T : List Entry) (d : Dir) (p : ℕ) (e : Entry) → At T p e → consecutive_by (role d e) ≡ 0 → ConsecutiveFrameAt T d p → ⊥
+not-consecutive : (T : List Entry) (d : Channel) (p : ℕ) (e : Entry) → At T p e → consecutive_by (role d e) ≡ 0 → ConsecutiveFrameAt T d p → ⊥
 not-consecutive T d p e at zero_by c =
     let is_e : c.entry ≡ e = get-same T p c.entry e c.stands at in
     let zero : consecutive_by (role d c.entry) ≡ 0 = ap (λ x. consecutive_by (role d x)) is_e ∙ zero_by in
     let one = ap consecutive_by c.kind in omega arith
 
-module _ (limit : ℕ) (T : List Entry) (d : Dir) (m : List ℕ) (i : ℕ) (cs : List ℕ) (l : IsSegmented T d m i cs) (rising : IsRisingFrom 0 (i ∷ cs))
+module _ (limit : ℕ) (T : List Entry) (d : Channel) (m : List ℕ) (i : ℕ) (cs : List ℕ) (l : IsSegmented T d m i cs) (rising : IsRisingFrom 0 (i ∷ cs))
     (mine : (x : ℕ) (e : Entry) → i ≤ x → x ≤ last_or i cs → At T x e → IsOwn (role d e) → IsIn x (i ∷ cs)) where
   at-cs : (x : ℕ) → IsIn x cs → ConsecutiveFrameAt T d x
   at-cs x j =
@@ -174,7 +175,7 @@ module _ (limit : ℕ) (T : List Entry) (d : Dir) (m : List ℕ) (i : ℕ) (cs :
 
 -- ---- each message is given the positions of its frames
 
-frames-of : (limit : ℕ) (T : List Entry) (d : Dir) (m ps : List ℕ) → Carries T d m ps → IsRisingFrom 0 ps → Delivers limit T (last_or 0 ps) d m
+frames-of : (limit : ℕ) (T : List Entry) (d : Channel) (m ps : List ℕ) → Carries T d m ps → IsRisingFrom 0 ps → Delivers limit T (last_or 0 ps) d m
     → ((i p x : ℕ) (e : Entry) → IsIn i ps → IsIn p ps → i ≤ x → x ≤ p → At T x e → IsOwn (role d e) → IsIn x ps) → AreFramesOf limit T d m ps
 frames-of limit T d m _ (unsegmented one) rising delivers mine = alone one
 frames-of limit T d m _ (segmented {begun = i} {positions = cs} l) rising delivers mine =
@@ -183,8 +184,8 @@ frames-of limit T d m _ (segmented {begun = i} {positions = cs} l) rising delive
 pub gives-frames : (limit : ℕ) (T : List Entry) (M : List Message) (r : IsRecording limit T M) → AreGivenTheirFrames limit T r.transfers
 unfolding AtItsLast
 gives-frames limit T M r =
-    AllByRecursion-both (λ t. IsTransfer limit T t × Shares limit T r.transfers t) (AtItsLast limit T) (λ t. AreFramesOf limit T t.dir t.message t.positions)
-    (λ t h delivers. frames-of limit T t.dir t.message t.positions h.0.carried h.0.rising delivers (own-within limit T r.transfers t h.1 r.others))
+    AllByRecursion-both (λ t. IsTransfer limit T t × Shares limit T r.transfers t) (AtItsLast limit T) (λ t. AreFramesOf limit T t.channel t.message t.positions)
+    (λ t h delivers. frames-of limit T t.channel t.message t.positions h.0.carried h.0.rising delivers (own-within limit T r.transfers t h.1 r.others))
     r.transfers
     (AllByRecursion-both (IsTransfer limit T) (Shares limit T r.transfers) (λ t. IsTransfer limit T t × Shares limit T r.transfers t) (λ t h g. (h, g))
     r.transfers r.each (shares limit T r.transfers r.each r.pairs))
@@ -220,7 +221,7 @@ given-once p (t ∷ ts) pairs (inr g) =
       none_after = w.none_after;
     }
 
-carries-idle : (r : Result Layout PduFault) → CarriesMessage r → IsIdle r → ⊥
+carries-idle : (r : Result Layout Reason) → CarriesMessage r → IsIdle r → ⊥
 carries-idle (Err f) h idle = h
 carries-idle (Ok (layout.single m)) h idle = idle
 carries-idle (Ok (layout.first len rx_dl bytes)) h idle = idle
@@ -230,5 +231,5 @@ carries-idle (Ok (layout.flow_control s)) h idle = h
 pub gives-once : (limit : ℕ) (T : List Entry) (M : List Message) (r : IsRecording limit T M) → EachBelongsOnce T r.transfers
 gives-once limit T M r p e at carries = elim (r.others p e at) [
   | inl given ↦ given-once p r.transfers r.pairs given
-  | inr idle ↦ absurd (carries-idle (layout_of e.frame) carries idle)
+  | inr idle ↦ absurd (carries-idle (layout_in e) carries idle)
 ]

@@ -3,7 +3,7 @@ use Rattle.std.proofs.Common.{◌≡◌, ℕ, ◌+◌, ◌-◌, ◌*◌, ◌<◌
 use Rattle.std.proofs.Common.{length-append, append_assoc}
 use Rattle.std.proofs.lemmas.List.{append-nil}
 use Rattle.std.proofs.lemmas.Bool.{and_parts, ltb-true, leb-true, eqb-true, lt-ltb, false≢true}
-use Rattle.direction.specs.declared.Dir.{Dir}
+use Rattle.isotp_receive.specs.declared.channel.Channel.{Channel}
 use Rattle.isotp_receive.specs.Trace.{Entry, FirstFrame, FrameRole, single, first, consecutive, continue_or_wait, overflow, no_part, role}
 use Rattle.isotp_receive.specs.Places.{consecutive_by, consecutive_frames_in}
 use Rattle.isotp_receive.specs.StandingReception.{carried_by, carried, standing_of, carried_after, fits_length, keeps_by, keep, is_open}
@@ -13,12 +13,12 @@ use Rattle.isotp_receive.proofs.CountedFrames.{taken-append, taken-snoc, carried
 use Rattle.isotp_receive.proofs.FitTests.{was-next}
 
 -- what the test says of a reception that is open after these frames
-pub record IsOpenAfter (limit : ℕ) (d : Dir) (s : FirstFrame) (es : List Entry) : Type 0 where
+pub record IsOpenAfter (limit : ℕ) (d : Channel) (s : FirstFrame) (es : List Entry) : Type 0 where
   pub within : s.len ≤ limit
   pub room : carried_after s (consecutive_frames_in d es) < s.len
   pub kept : keep d s [] es ≡ true
 
-pub open-after : (limit : ℕ) (d : Dir) (s : FirstFrame) (es : List Entry) → is_open limit d s es ≡ true → IsOpenAfter limit d s es
+pub open-after : (limit : ℕ) (d : Channel) (s : FirstFrame) (es : List Entry) → is_open limit d s es ≡ true → IsOpenAfter limit d s es
 open-after limit d s es opens =
     let parts = and_parts (nat_le s.len limit) _ opens in
     let more = and_parts (nat_lt (carried_after s (consecutive_frames_in d es)) s.len) _ parts.1 in
@@ -32,7 +32,7 @@ fits_full len rx_dl have can_dl h below =
     eqb-true can_dl rx_dl (rw test at parts.1)
 
 -- what one more frame carries
-carried-one : (d : Dir) (s : FirstFrame) (past : List Entry) (micros : ℕ) (x : List ℕ) (r : FrameRole) → IsRoleOf micros x r → keeps_by d s past micros r ≡ true
+carried-one : (d : Channel) (s : FirstFrame) (past : List Entry) (micros : ℕ) (x : List ℕ) (r : FrameRole) → IsRoleOf micros x r → keeps_by d s past micros r ≡ true
     → carried_after s (consecutive_frames_in d past + consecutive_by r) < s.len
     → length (carried d past) ≡ consecutive_frames_in d past * (s.rx_dl - 1)
     → length (carried d past ++ carried_by r) ≡ (consecutive_frames_in d past + consecutive_by r) * (s.rx_dl - 1)
@@ -47,7 +47,7 @@ carried-one d s past micros x continue_or_wait from h below full = simp length-a
 carried-one d s past micros x overflow from h below full = simp length-append (omega arith)
 carried-one d s past micros x no_part from h below full = simp length-append (omega arith)
 
-carried-behind : (d : Dir) (s : FirstFrame) (past es : List Entry) → keep d s past es ≡ true
+carried-behind : (d : Channel) (s : FirstFrame) (past es : List Entry) → keep d s past es ≡ true
     → carried_after s (consecutive_frames_in d (past ++ es)) < s.len
     → length (carried d past) ≡ consecutive_frames_in d past * (s.rx_dl - 1)
     → length (carried d (past ++ es)) ≡ consecutive_frames_in d (past ++ es) * (s.rx_dl - 1)
@@ -71,21 +71,21 @@ carried-behind d s past (e ∷ es) h below full =
     rw (← regroup) (carried-behind d s (past ++ e ∷ []) es parts.1 below_all full_one)
 
 -- what the frames carry
-pub carried-full : (d : Dir) (s : FirstFrame) (es : List Entry) → keep d s [] es ≡ true → carried_after s (consecutive_frames_in d es) < s.len
+pub carried-full : (d : Channel) (s : FirstFrame) (es : List Entry) → keep d s [] es ≡ true → carried_after s (consecutive_frames_in d es) < s.len
     → length (carried d es) ≡ consecutive_frames_in d es * (s.rx_dl - 1)
 carried-full d s es kept room = carried-behind d s [] es kept room (omega arith)
 
 -- and what has come of the message
-pub come-after : (d : Dir) (s : FirstFrame) (es : List Entry) → keep d s [] es ≡ true → carried_after s (consecutive_frames_in d es) < s.len
+pub come-after : (d : Channel) (s : FirstFrame) (es : List Entry) → keep d s [] es ≡ true → carried_after s (consecutive_frames_in d es) < s.len
     → length (s.bytes ++ carried d es) ≡ carried_after s (consecutive_frames_in d es)
 come-after d s es kept room = omega (arith, length-append s.bytes (carried d es), carried-full d s es kept room)
 
-pub come-so-far : (limit : ℕ) (d : Dir) (s : FirstFrame) (es : List Entry) → is_open limit d s es ≡ true
+pub come-so-far : (limit : ℕ) (d : Channel) (s : FirstFrame) (es : List Entry) → is_open limit d s es ≡ true
     → length (s.bytes ++ carried d es) ≡ carried_after s (consecutive_frames_in d es)
 come-so-far limit d s es opens = let after = open-after limit d s es opens in come-after d s es after.kept after.room
 
 -- before one of these frames too
-pub come-before : (d : Dir) (s : FirstFrame) (es b after : List Entry) → keep d s [] es ≡ true → carried_after s (consecutive_frames_in d es) < s.len
+pub come-before : (d : Channel) (s : FirstFrame) (es b after : List Entry) → keep d s [] es ≡ true → carried_after s (consecutive_frames_in d es) < s.len
     → es ≡ b ++ after → length (s.bytes ++ carried d b) ≡ carried_after s (consecutive_frames_in d b)
 come-before d s es b after kept room splits =
     let count = ap (consecutive_frames_in d) splits ∙ taken-append d b after in

@@ -3,7 +3,7 @@ use Rattle.std.proofs.Common.{◌≡◌, ℕ, suc, ◌+◌, ◌-◌, ◌*◌, �
 use Rattle.std.proofs.Common.{arith, length-append, length-take, inl, inr, get_or-take}
 use Rattle.std.proofs.lemmas.List.{take_all, take_at, take-take, take-append-le, get_or-drop, get_or_append_left, get_or-append-add}
 use Rattle.std.proofs.lemmas.Grind.{get_or_after_one}
-use Rattle.direction.specs.declared.Dir.{Dir}
+use Rattle.isotp_receive.specs.declared.channel.Channel.{Channel}
 use Rattle.isotp_receive.specs.Trace.{Entry, FirstFrame, first, consecutive, role, At}
 use Rattle.isotp_receive.specs.Places.{bytes_in_first, bytes_before, FitsAs}
 use Rattle.isotp_receive.specs.OnTime.{n_cr, IsReference}
@@ -18,7 +18,7 @@ use Rattle.isotp_receive.proofs.FitTests.{was-more, was-last}
 use Rattle.isotp_receive.proofs.References.{moved, begins-at}
 
 -- before position n there is a first frame at `begun`, and its consecutive frames so far are at cs
-pub record Gathered (limit : ℕ) (T : List Entry) (d : Dir) (n : ℕ) (st : StandingReception) (begun : ℕ) (cs : List ℕ) : Type 0 where
+pub record Gathered (limit : ℕ) (T : List Entry) (d : Channel) (n : ℕ) (st : StandingReception) (begun : ℕ) (cs : List ℕ) : Type 0 where
   pub frame : Entry
   pub start : FirstFrame
   pub here : At T begun frame
@@ -42,7 +42,7 @@ pub record Gathered (limit : ℕ) (T : List Entry) (d : Dir) (n : ℕ) (st : Sta
   pub time : st.reference ≡ last.micros
 
 -- the same frames, one frame later
-pub one-later : (limit : ℕ) (T : List Entry) (d : Dir) (n : ℕ) (st : StandingReception) (i : ℕ) (cs : List ℕ) (u : Gathered limit T d n st i cs) (t q : ℕ) (x : Entry)
+pub one-later : (limit : ℕ) (T : List Entry) (d : Channel) (n : ℕ) (st : StandingReception) (i : ℕ) (cs : List ℕ) (u : Gathered limit T d n st i cs) (t q : ℕ) (x : Entry)
     → IsReference T d i (suc n) q → At T q x → t ≡ x.micros → Gathered limit T d (suc n) (record st { reference = t }) i cs
 one-later limit T d n st i cs u t q x refers there time = record {
   frame = u.frame;
@@ -66,7 +66,7 @@ one-later limit T d n st i cs u t q x refers there time = record {
   time = time;
 }
 
-module _ (limit : ℕ) (T : List Entry) (d : Dir) (n : ℕ) (e : Entry) (at : At T n e) where
+module _ (limit : ℕ) (T : List Entry) (d : Channel) (n : ℕ) (e : Entry) (at : At T n e) where
   -- a first frame, and no other yet
   pub begun : (s : FirstFrame) → role d e ≡ first s → s.len ≤ limit → Gathered limit T d (suc n) (fresh s) n []
   begun s kind fits =

@@ -1,20 +1,24 @@
 -- What a frame tells a direction, by the role that it has for it: the message that it completes, or nothing.
 use Rattle.std.proofs.Common.{◌≡◌, ℕ, List, [], ◌∷◌, ◌++◌, take, nat_le, ◌==◌, Option, Some, None, Result, Ok, Err, refl, sym, ap, cond, inl, inr}
 use Rattle.std.proofs.lemmas.Bool.{cases_Bool}
-use Rattle.direction.specs.Dir.{other_direction}
-use Rattle.direction.specs.declared.Dir.{Dir}
+use Rattle.isotp_receive.specs.Channels.{other_channel}
+use Rattle.isotp_receive.specs.declared.channel.Channel.{Channel}
 use Rattle.isotp_pdu.specs.Layout.{Layout}
-use Rattle.isotp_pdu.specs.Reading.{layout_of}
 use Rattle.isotp_pdu.specs.Layout as layout
-use Rattle.isotp_pdu.specs.declared.PduFault.{PduFault}
 use Rattle.isotp_pdu.specs.declared.Status.TheVariants.{Continue, Wait, Overflow}
 use Rattle.isotp_receive.specs.declared.event.Reason.TheVariants as as_reason
-use Rattle.isotp_receive.specs.Trace.{Entry, FrameRole, single, first, consecutive, continue_or_wait, overflow, no_part, role, own_role, other_role, same_direction}
+use Rattle.isotp_receive.specs.Trace.{Entry, FrameRole, single, first, consecutive, continue_or_wait, overflow, no_part, role, own_role, other_role}
 use Rattle.isotp_receive.specs.Fit.{Fit, late, wrong_number, wrong_length, one_more, last}
 use Rattle.isotp_receive.specs.StandingReception.{StandingReception, fit_of, stands}
 use Rattle.isotp_receive.specs.Verdict.{began, dropped, verdict, on_fit, on_layout, on_continue_or_wait, on_overflow}
 use Rattle.isotp_receive.proofs.Heard.{placed}
 use Rattle.isotp_receive.proofs.Directions.{same}
+use Rattle.isotp_receive.specs.Channels.{same_channel}
+use Rattle.isotp_receive.specs.Channels.{dir_of}
+use Rattle.isotp_receive.specs.Trace.{layout_in}
+use Rattle.isotp_receive.specs.declared.event.Reason.{Reason}
+use Rattle.direction.specs.declared.Dir.{Dir}
+use Rattle.direction.specs.Dir.{other_direction}
 
 -- the message that a frame of this role completes, where this stands
 abbrev pub completed_by : Fit → StandingReception → List ℕ → List (List ℕ)
@@ -57,7 +61,7 @@ placed-first : (n limit len : ℕ) → placed n (cond (nat_le len limit) began (
 placed-first n limit len = elim (cases_Bool (nat_le len limit)) [ inl e ↦ rw e refl | inr e ↦ rw e refl ]
 
 -- what the layout of a frame of the direction itself tells
-placed-layout : (n limit : ℕ) (d : Dir) (own others : Option StandingReception) (line micros : ℕ) (x : Result Layout PduFault)
+placed-layout : (n limit : ℕ) (d : Dir) (own others : Option StandingReception) (line micros : ℕ) (x : Result Layout Reason)
     → placed n (on_layout limit d own others micros x).verdict ≡ at_place n (completed own micros (own_role line micros x))
 placed-layout n limit d own others line micros (Err f) = refl
 placed-layout n limit d own others line micros (Ok (layout.single m)) = refl
@@ -69,7 +73,7 @@ placed-layout n limit d own others line micros (Ok (layout.flow_control Continue
 placed-layout n limit d own others line micros (Ok (layout.flow_control Wait)) = placed-pace n others
 placed-layout n limit d own others line micros (Ok (layout.flow_control Overflow)) = placed-overflow n (other_direction d) others
 
-nothing-else : (o : Option StandingReception) (micros : ℕ) (x : Result Layout PduFault) → completed o micros (other_role x) ≡ []
+nothing-else : (o : Option StandingReception) (micros : ℕ) (x : Result Layout Reason) → completed o micros (other_role x) ≡ []
 nothing-else o micros (Err f) = refl
 nothing-else o micros (Ok (layout.single m)) = refl
 nothing-else o micros (Ok (layout.first len rx_dl bytes)) = refl
@@ -79,11 +83,11 @@ nothing-else o micros (Ok (layout.flow_control Wait)) = refl
 nothing-else o micros (Ok (layout.flow_control Overflow)) = refl
 
 -- what a frame tells a direction, by its role
-pub told-by-role : (limit : ℕ) (d : Dir) (n : ℕ) (past : List Entry) (e : Entry)
-    → cond (same_direction d e.dir) (placed n (verdict limit past e).verdict) [] ≡ at_place n (completed (stands limit d past) e.micros (role d e))
+pub told-by-role : (limit : ℕ) (d : Channel) (n : ℕ) (past : List Entry) (e : Entry)
+    → cond (same_channel d e.channel) (placed n (verdict limit past e).verdict) [] ≡ at_place n (completed (stands limit d past) e.micros (role d e))
 unfolding verdict role
 told-by-role limit d n past e =
-    elim (cases_Bool (same_direction d e.dir)) [
-      | inl q ↦ rw q (rw (same d e.dir q) (placed-layout n limit e.dir (stands limit e.dir past) (stands limit (other_direction e.dir) past) e.line e.micros (layout_of e.frame)))
-      | inr q ↦ rw q (ap (at_place n) (sym (nothing-else (stands limit d past) e.micros (layout_of e.frame))))
+    elim (cases_Bool (same_channel d e.channel)) [
+      | inl q ↦ rw q (rw (same d e.channel q) (placed-layout n limit (dir_of e.channel) (stands limit e.channel past) (stands limit (other_channel e.channel) past) e.line e.micros (layout_in e)))
+      | inr q ↦ rw q (ap (at_place n) (sym (nothing-else (stands limit d past) e.micros (layout_in e))))
     ]

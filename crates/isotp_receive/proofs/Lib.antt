@@ -14,6 +14,7 @@ pub mod FitTests
 pub mod FullFrames
 pub mod StandsAlone
 pub mod OneMore
+pub mod FunctionalFrames
 pub mod BothDirections
 pub mod Growths
 -- what stands, and what is open by the positions of a trace

@@ -4,7 +4,7 @@ use Rattle.std.proofs.Common.{refl, sym, ◌∙◌, ap, arith, length-append, le
 use Rattle.std.proofs.lemmas.Bool.{lt-ltb, le-ltb, le-leb, eq-eqb, cases_lt}
 use Rattle.std.proofs.lemmas.List.{take_all, get_or-drop}
 use Rattle.std.proofs.lemmas.Grind.{get_or_after_one}
-use Rattle.direction.specs.declared.Dir.{Dir}
+use Rattle.isotp_receive.specs.declared.channel.Channel.{Channel}
 use Rattle.isotp_receive.specs.Trace.{Entry, consecutive, role, At}
 use Rattle.isotp_receive.specs.Places.{bytes_in_first, bytes_before, FitsAs}
 use Rattle.isotp_receive.specs.OnTime.{n_cr}
@@ -27,7 +27,7 @@ at_most f r len count k sequence_number can_dl h le = elim (cases_lt k count) [
   | inr most ↦ h.last_high (omega arith)
 ]
 
-module _ (limit : ℕ) (T : List Entry) (d : Dir) (n : ℕ) (e : Entry) (at : At T n e) where
+module _ (limit : ℕ) (T : List Entry) (d : Channel) (n : ℕ) (e : Entry) (at : At T n e) where
   -- ---- the frame at n is the next consecutive frame of the message
 
   record IsNextOf (st : StandingReception) (m cs : List ℕ) (s : UnderWay T d n st m (n ∷ cs)) (sequence_number can_dl : ℕ) (bytes : List ℕ) : Type 0 where

@@ -4,7 +4,7 @@ use Rattle.std.proofs.Common.{refl, sym, ◌∙◌, ap, arith, cond, length-appe
 use Rattle.std.proofs.lemmas.List.{append-nil}
 use Rattle.std.proofs.lemmas.Bool.{ltb-true, lt-ltb}
 use Rattle.std.proofs.Math.Bool.{and-true}
-use Rattle.direction.specs.declared.Dir.{Dir}
+use Rattle.isotp_receive.specs.declared.channel.Channel.{Channel}
 use Rattle.isotp_receive.specs.Trace.{Entry, FirstFrame, FrameRole, single, first, consecutive, continue_or_wait, overflow, no_part, role}
 use Rattle.isotp_receive.specs.Places.{consecutive_by, consecutive_frames_in}
 use Rattle.isotp_receive.specs.StandingReception.{carried_by, carried, referred, reference, carried_after, is_on_time, expected, has_length, stays_incomplete, keeps_by, keep, is_open, StandingReception, standing_of, since, or_else, stands}
@@ -40,7 +40,7 @@ pull false st micros r = refl
 
 -- ---- the reception that began with a frame, one frame later
 
-module _ (limit : ℕ) (d : Dir) (s : FirstFrame) (es : List Entry) (micros : ℕ) where
+module _ (limit : ℕ) (d : Channel) (s : FirstFrame) (es : List Entry) (micros : ℕ) where
   within : Bool
   within = nat_le s.len limit
 
@@ -97,7 +97,7 @@ module _ (limit : ℕ) (d : Dir) (s : FirstFrame) (es : List Entry) (micros : �
   one-later overflow = rw (add-zero, append-nil) (stopped-at-zero within room kept (consecutive_frames_in d es) _ _ refl ∙ pulled overflow)
   one-later no_part = rw (add-zero, append-nil) (unchanged within room kept _ _ refl ∙ pulled no_part)
 
-since-snoc : (limit : ℕ) (d : Dir) (r : FrameRole) (es : List Entry) (e : Entry) → since limit d r (es ++ e ∷ []) ≡ continue (since limit d r es) e.micros (role d e)
+since-snoc : (limit : ℕ) (d : Channel) (r : FrameRole) (es : List Entry) (e : Entry) → since limit d r (es ++ e ∷ []) ≡ continue (since limit d r es) e.micros (role d e)
 since-snoc limit d (first s) es e = rw (taken-snoc, carried-snoc, reference-snoc, keep-snoc) (one-later limit d s es e.micros (role d e))
 since-snoc limit d (single m) es e = refl
 since-snoc limit d (consecutive sequence_number can_dl bytes) es e = refl
@@ -116,7 +116,7 @@ join : (a b c : Option StandingReception) (micros : ℕ) (r : FrameRole) → ((s
 join None b c micros r h = refl
 join (Some s) b c micros r h = rw (h s refl) refl
 
-one_step : (limit : ℕ) (d : Dir) (T : List Entry) (e : Entry)
+one_step : (limit : ℕ) (d : Channel) (T : List Entry) (e : Entry)
     → stands limit d (T ++ e ∷ []) ≡ or_else (continue (stands limit d T) e.micros (role d e)) (since limit d (role d e) [])
 one_step limit d [] e = or_none (since limit d (role d e) [])
 one_step limit d (x ∷ T) e =
@@ -133,7 +133,7 @@ continue_whole : (o : Option StandingReception) (micros : ℕ) (m : List ℕ) �
 continue_whole None micros m = refl
 continue_whole (Some t) micros m = refl
 
-by_step : (limit : ℕ) (d : Dir) (o : Option StandingReception) (micros : ℕ) (x : List ℕ) (r : FrameRole) → IsRoleOf micros x r
+by_step : (limit : ℕ) (d : Channel) (o : Option StandingReception) (micros : ℕ) (x : List ℕ) (r : FrameRole) → IsRoleOf micros x r
     → or_else (continue o micros r) (since limit d r []) ≡ after limit o micros r
 by_step limit d o micros x (first s) from =
     let starts : nat_lt (length s.bytes + 0 * (s.rx_dl - 1)) s.len ≡ true = lt-ltb _ _ (omega (arith, from)) in
@@ -145,5 +145,5 @@ by_step limit d o micros x overflow from = or_none (continue o micros overflow)
 by_step limit d None micros x no_part from = refl
 by_step limit d (Some s) micros x no_part from = refl
 
-pub one_more : (limit : ℕ) (d : Dir) (T : List Entry) (e : Entry) → stands limit d (T ++ e ∷ []) ≡ after limit (stands limit d T) e.micros (role d e)
+pub one_more : (limit : ℕ) (d : Channel) (T : List Entry) (e : Entry) → stands limit d (T ++ e ∷ []) ≡ after limit (stands limit d T) e.micros (role d e)
 one_more limit d T e = one_step limit d T e ∙ by_step limit d (stands limit d T) e.micros e.frame.bytes (role d e) (role_from d e)

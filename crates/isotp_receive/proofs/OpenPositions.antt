@@ -2,7 +2,7 @@
 use Rattle.std.proofs.Common.{◌≡◌, ℕ, suc, ◌+◌, ◌<◌, true, List, [], ◌∷◌, ◌++◌, length, nat_lt, refl, sym, ◌∙◌, ap, arith, subst}
 use Rattle.std.proofs.Common.{append_assoc, length-append}
 use Rattle.std.proofs.lemmas.Bool.{and_parts, and_from, ltb-true, lt-ltb, le-leb, eqb-true, eq-eqb, false≢true}
-use Rattle.direction.specs.declared.Dir.{Dir}
+use Rattle.isotp_receive.specs.declared.channel.Channel.{Channel}
 use Rattle.isotp_receive.specs.Trace.{Entry, At, FirstFrame, FrameRole, single, first, consecutive, continue_or_wait, overflow, no_part, role}
 use Rattle.isotp_receive.specs.Places.{bytes_in_first, bytes_before, IsConsecutiveCount, consecutive_frames_in, between}
 use Rattle.isotp_receive.specs.OnTime.{IsOnTime}
@@ -20,7 +20,7 @@ use Rattle.isotp_receive.proofs.ConsecutiveCounts.{below-count, count-exists}
 
 -- ---- a frame x after the frames b, which follow the first frame e0 that began the reception s
 
-module _ (d : Dir) (before : List Entry) (e0 : Entry) (s : FirstFrame) (begins : role d e0 ≡ first s)
+module _ (d : Channel) (before : List Entry) (e0 : Entry) (s : FirstFrame) (begins : role d e0 ≡ first s)
     (n : ℕ) (least : IsConsecutiveCount (bytes_in_first e0.frame.bytes) s.rx_dl s.len n) (b : List Entry) (x : Entry) (after : List Entry)
     (come : length (s.bytes ++ carried d b) ≡ carried_after s (consecutive_frames_in d b)) where
   abbrev pub LeavesItOpen : FrameRole → Type 0
@@ -62,7 +62,7 @@ module _ (d : Dir) (before : List Entry) (e0 : Entry) (s : FirstFrame) (begins :
   keeps-from no_part below h = refl
 
 -- the same said of the same frame in another spelling of the trace
-pub same-leaves : (d : Dir) (s : FirstFrame) (f n i i' j j' c c' : ℕ) (T T' : List Entry) (x : Entry) (r : FrameRole) → j ≡ j' → T ≡ T' → i ≡ i' → c ≡ c'
+pub same-leaves : (d : Channel) (s : FirstFrame) (f n i i' j j' c c' : ℕ) (T T' : List Entry) (x : Entry) (r : FrameRole) → j ≡ j' → T ≡ T' → i ≡ i' → c ≡ c'
     → LeavesOpen s f n j (IsOnTime T d i c x) r → LeavesOpen s f n j' (IsOnTime T' d i' c' x) r
 same-leaves d s f n i i' j j' c c' T T' x r ej et ei ec h =
     subst (λ z. LeavesOpen s f n z (IsOnTime T' d i' c' x) r) ej (subst (λ z. LeavesOpen s f n j (IsOnTime z d i' c' x) r) et
@@ -97,7 +97,7 @@ is-behind before e0 since rest c x later within at =
 
 -- ---- what stands is open at its place, whatever follows
 
-unfoldable pub open-there : (limit : ℕ) (d : Dir) (before : List Entry) (e0 : Entry) (s : FirstFrame) (since rest : List Entry)
+unfoldable pub open-there : (limit : ℕ) (d : Channel) (before : List Entry) (e0 : Entry) (s : FirstFrame) (since rest : List Entry)
     → role d e0 ≡ first s → is_open limit d s since ≡ true
     → IsOpenAt limit (before ++ e0 ∷ (since ++ rest)) d (length before) (consecutive_frames_in d since) (suc (length before) + length since)
 open-there limit d before e0 s since rest begins opens =
@@ -129,7 +129,7 @@ open-there limit d before e0 s since rest begins opens =
 
 -- ---- what is open at a place stands there
 
-module _ (limit : ℕ) (d : Dir) (T rest : List Entry) (begun number : ℕ) (o : IsOpenAt limit (T ++ rest) d begun number (length T)) where
+module _ (limit : ℕ) (d : Channel) (T rest : List Entry) (begun number : ℕ) (o : IsOpenAt limit (T ++ rest) d begun number (length T)) where
   pub record StandsThere : Type 0 where
     pub before : List Entry
     pub since : List Entry

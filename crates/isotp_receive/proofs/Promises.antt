@@ -5,6 +5,7 @@ pub use Rattle.isotp_receive.proofs.StandingLaws.{kept-bytes as keeps_fewer_byte
 pub use Rattle.isotp_receive.proofs.DeliversLaws.{message-delivers as a_message_is_delivered}
 pub use Rattle.isotp_receive.proofs.DeliveredMessages.{messages_are_delivered}
 pub use Rattle.isotp_receive.proofs.VerdictLaws.{table-is-verdict as the_verdict_is_tabled}
+pub use Rattle.isotp_receive.proofs.FunctionalFrames.{functional_frames_stand_alone, functional-has-no-part as functional_has_no_part}
 pub use Rattle.isotp_receive.proofs.Fits.{room-join as places_agree_on_bytes, fits-join as places_agree_on_fit}
 pub use Rattle.isotp_receive.proofs.Delivered.{recording-delivers as recording_delivers, recording-delivers-behind as recording_delivers_behind}
 pub use Rattle.isotp_receive.proofs.Delivered.{delivers-at-last as recording_delivers_at_last_position}
@@ -12,7 +13,9 @@ pub use Rattle.isotp_receive.proofs.FrameLaws.{by-frames as recording_delivers_b
 pub use Rattle.isotp_receive.proofs.MessagesOfMore.{messages_go_on}
 pub use Rattle.isotp_receive.proofs.DeliveredBytes.{messages_are_few, messages_fit, messages_hold_bytes}
 pub use Rattle.isotp_receive.proofs.EventCounts.{events_go_on, events_are_as_many, too_long_is_announced, kept_is_within, clean_is_counted}
-pub use Rattle.isotp_receive.proofs.Readings.{first_frame_is_read}
+pub use Rattle.isotp_receive.proofs.Readings.{first_frame_is_read, said_is_read}
+pub use Rattle.isotp_receive.proofs.BothDirections.{apart_channels, answered_on, said_on, sender}
+pub use Rattle.isotp_receive.proofs.FunctionalFrames.{nothing-functional as nothing_functional}
 pub use Rattle.isotp_receive.proofs.References.{same-reference as one_reference, within-a-second as on_time_is_within_a_second}
 pub use Rattle.isotp_receive.proofs.Growths.{stands-without as refused_leaves_the_other}
 pub use Rattle.isotp_receive.proofs.CapacityLaws.{stay-within as capacities_stay_within, new-within as new_pair_keeps_within, one-more-within as one_more_keeps_within}
@@ -20,4 +23,4 @@ pub use Rattle.isotp_receive.proofs.OneMore.{one_more}
 pub use Rattle.isotp_receive.proofs.ListPositions.{get-here, get-left, get-drop}
 pub use Rattle.isotp_receive.proofs.Fronts.{take_over}
 pub use Rattle.isotp_receive.proofs.PositionLists.{last-in}
-pub use Rattle.isotp_receive.proofs.Directions.{same-self, apart-flipped, other-apart}
+pub use Rattle.isotp_receive.proofs.Directions.{same, same-self, apart-flipped, other-apart}

@@ -4,17 +4,22 @@ use Rattle.std.proofs.Common.{Err, refl, sym, ◌∙◌, ap, arith, cond, length
 use Rattle.std.specs.Prelude.{⊤, IfOk}
 use Rattle.std.proofs.lemmas.Bool.{cond_both, cases_Bool, ne_eqb}
 use Rattle.can_log.specs.Frame.{FrameValue}
-use Rattle.direction.specs.declared.Dir.{Dir}
+use Rattle.isotp_receive.specs.declared.channel.Channel.{Channel}
 use Rattle.isotp_pdu.specs.declared.PduFault.{PduFault}
 use Rattle.isotp_pdu.specs.declared.Status.TheVariants.{Continue, Wait, Overflow}
 use Rattle.isotp_pdu.specs.Layout.{Layout, bytes_carried, least_first, SpellsFirst, Spells, IsSoundLayout}
 use Rattle.isotp_pdu.specs.Layout as layout
 use Rattle.isotp_pdu.specs.Reading.{layout_of}
 use Rattle.isotp_pdu.proofs.Promises.{layout_is_read, layout_is_sound, carried_bytes_are_of_frame, can_dl_is_at_most_64}
-use Rattle.isotp_receive.specs.Trace.{Entry, FirstFrame, FrameRole, single, first, consecutive, continue_or_wait, overflow, no_part, role, own_role, other_role, same_direction}
+use Rattle.isotp_receive.specs.Trace.{Entry, FirstFrame, FrameRole, single, first, consecutive, continue_or_wait, overflow, no_part, role, own_role, other_role}
+use Rattle.isotp_receive.specs.declared.channel.Channel.TheVariants.{Tester, Unit, Functional}
 use Rattle.isotp_receive.specs.Places.{bytes_in_first}
 use Rattle.isotp_receive.specs.MessageLaws.{FirstFrameIsRead}
 use Rattle.isotp_receive.proofs.Directions.{same}
+use Rattle.isotp_receive.specs.Channels.{same_channel}
+use Rattle.isotp_receive.specs.Trace.{layout_in}
+use Rattle.isotp_receive.specs.Channels.{layout_on}
+use Rattle.isotp_receive.specs.declared.event.Reason.{Reason}
 
 -- ---- where the bytes of a layout lie in its frame
 
@@ -78,6 +83,27 @@ read_from f (Ok found) is =
     }
 read_from f (Err fault) is = tt
 
+-- what a frame says on a channel is its layout
+on_channel : (c : Channel) (r : Result Layout PduFault) (found : Layout) → layout_on c r ≡ Ok found → r ≡ Ok found
+on_channel Tester (Ok said) found is = cc
+on_channel Tester (Err fault) found is = absurd (cc)
+on_channel Unit (Ok said) found is = cc
+on_channel Unit (Err fault) found is = absurd (cc)
+on_channel Functional (Ok (layout.single message)) found is = cc
+on_channel Functional (Ok (layout.first len rx_dl bytes)) found is = absurd (cc)
+on_channel Functional (Ok (layout.consecutive sequence_number can_dl bytes)) found is = absurd (cc)
+on_channel Functional (Ok (layout.flow_control status)) found is = absurd (cc)
+on_channel Functional (Err fault) found is = absurd (cc)
+
+-- what a frame says in a trace is its layout
+pub said_is_read : (e : Entry) (found : Layout) → layout_in e ≡ Ok found → layout_of e.frame ≡ Ok found
+unfolding layout_in
+said_is_read e found is = on_channel e.channel (layout_of e.frame) found is
+
+read_in : (e : Entry) (r : Result Layout Reason) → layout_in e ≡ r → IfOk r (IsReadFrom e.frame.bytes)
+read_in e (Ok found) is = read_from e.frame (Ok found) (said_is_read e found is)
+read_in e (Err why) is = tt
+
 -- ---- what is known of a frame of each role, of these bytes
 
 pub record IsWhole (x message : List ℕ) : Type 0 where
@@ -104,7 +130,7 @@ IsRoleOf micros x continue_or_wait = ⊤
 IsRoleOf micros x overflow = ⊤
 IsRoleOf micros x no_part = ⊤
 
-own_from : (line micros : ℕ) (x : List ℕ) (r : Result Layout PduFault) → IfOk r (IsReadFrom x) → IsRoleOf micros x (own_role line micros r)
+own_from : (line micros : ℕ) (x : List ℕ) (r : Result Layout Reason) → IfOk r (IsReadFrom x) → IsRoleOf micros x (own_role line micros r)
 own_from line micros x (Ok (layout.single message)) from =
     let size = ap length from.carried.2 in
     let sum = length-append from.carried.0 (message ++ from.carried.1) in
@@ -115,7 +141,7 @@ own_from line micros x (Ok (layout.consecutive sequence_number can_dl bytes)) fr
 own_from line micros x (Ok (layout.flow_control status)) from = tt
 own_from line micros x (Err fault) from = tt
 
-other_from : (micros : ℕ) (x : List ℕ) (r : Result Layout PduFault) → IsRoleOf micros x (other_role r)
+other_from : (micros : ℕ) (x : List ℕ) (r : Result Layout Reason) → IsRoleOf micros x (other_role r)
 other_from micros x (Ok (layout.flow_control Continue)) = tt
 other_from micros x (Ok (layout.flow_control Wait)) = tt
 other_from micros x (Ok (layout.flow_control Overflow)) = tt
@@ -124,26 +150,26 @@ other_from micros x (Ok (layout.first len rx_dl bytes)) = tt
 other_from micros x (Ok (layout.consecutive sequence_number can_dl bytes)) = tt
 other_from micros x (Err fault) = tt
 
-pub role_from : (d : Dir) (e : Entry) → IsRoleOf e.micros e.frame.bytes (role d e)
+pub role_from : (d : Channel) (e : Entry) → IsRoleOf e.micros e.frame.bytes (role d e)
 unfolding role
 role_from d e =
-    cond_both (same_direction d e.dir) _ _ (IsRoleOf e.micros e.frame.bytes)
-    (λ _. own_from e.line e.micros e.frame.bytes _ (read_from e.frame (layout_of e.frame) refl))
-    (λ _. other_from e.micros e.frame.bytes (layout_of e.frame))
+    cond_both (same_channel d e.channel) _ _ (IsRoleOf e.micros e.frame.bytes)
+    (λ _. own_from e.line e.micros e.frame.bytes _ (read_in e (layout_in e) refl))
+    (λ _. other_from e.micros e.frame.bytes (layout_in e))
 
-pub whole_from : (d : Dir) (e : Entry) (message : List ℕ) → role d e ≡ single message → IsWhole e.frame.bytes message
+pub whole_from : (d : Channel) (e : Entry) (message : List ℕ) → role d e ≡ single message → IsWhole e.frame.bytes message
 whole_from d e message h = rw h at (role_from d e)
 
-pub first_from : (d : Dir) (e : Entry) (start : FirstFrame) → role d e ≡ first start → IsFirst e.micros e.frame.bytes start
+pub first_from : (d : Channel) (e : Entry) (start : FirstFrame) → role d e ≡ first start → IsFirst e.micros e.frame.bytes start
 first_from d e start h = rw h at (role_from d e)
 
-pub next_from : (d : Dir) (e : Entry) (sequence_number can_dl : ℕ) (bytes : List ℕ) → role d e ≡ consecutive sequence_number can_dl bytes
+pub next_from : (d : Channel) (e : Entry) (sequence_number can_dl : ℕ) (bytes : List ℕ) → role d e ≡ consecutive sequence_number can_dl bytes
     → IsNext e.frame.bytes can_dl bytes
 next_from d e sequence_number can_dl bytes h = rw h at (role_from d e)
 
 -- ---- what is a first frame to a direction
 
-own_first : (line micros : ℕ) (r : Result Layout PduFault) (start : FirstFrame) → own_role line micros r ≡ first start
+own_first : (line micros : ℕ) (r : Result Layout Reason) (start : FirstFrame) → own_role line micros r ≡ first start
     → r ≡ Ok (layout.first start.len start.rx_dl start.bytes)
 own_first line micros (Ok (layout.first len rx_dl bytes)) start is =
     let same : record { line = line; micros = micros; len = len; rx_dl = rx_dl; bytes = bytes } ≡ start = cc in
@@ -153,7 +179,7 @@ own_first line micros (Ok (layout.consecutive sequence_number can_dl bytes)) sta
 own_first line micros (Ok (layout.flow_control status)) start is = absurd (cc)
 own_first line micros (Err fault) start is = absurd (cc)
 
-other_first : (r : Result Layout PduFault) (start : FirstFrame) → other_role r ≡ first start → ⊥
+other_first : (r : Result Layout Reason) (start : FirstFrame) → other_role r ≡ first start → ⊥
 other_first (Ok (layout.first len rx_dl bytes)) start is = cc
 other_first (Ok (layout.single message)) start is = cc
 other_first (Ok (layout.consecutive sequence_number can_dl bytes)) start is = cc
@@ -164,7 +190,7 @@ other_first (Err fault) start is = cc
 
 pub first_frame_is_read : FirstFrameIsRead
 unfolding role
-first_frame_is_read d e start is = elim (cases_Bool (same_direction d e.dir)) [
-  | inl own ↦ (same d e.dir own, own_first e.line e.micros (layout_of e.frame) start (rw own at is))
-  | inr other ↦ absurd (other_first (layout_of e.frame) start (rw other at is))
+first_frame_is_read d e start is = elim (cases_Bool (same_channel d e.channel)) [
+  | inl own ↦ (same d e.channel own, own_first e.line e.micros (layout_in e) start (rw own at is))
+  | inr other ↦ absurd (other_first (layout_in e) start (rw other at is))
 ]

@@ -5,14 +5,14 @@ use Rattle.std.specs.Prelude.{slice_get}
 use Rattle.std.proofs.lemmas.Nat.{div-add-mod'}
 use Rattle.std.proofs.Math.Nat.{mod-lt}
 use Rattle.std.proofs.lemmas.Bool.{cases_lt}
-use Rattle.direction.specs.declared.Dir.{Dir}
+use Rattle.isotp_receive.specs.declared.channel.Channel.{Channel}
 use Rattle.isotp_receive.specs.Trace.{Entry, At, role}
 use Rattle.isotp_receive.specs.Places.{bytes_in_first, consecutive_by, consecutive_frames_in, IsConsecutive, AtPlaces}
 use Rattle.isotp_receive.proofs.ListPositions.{get-same, get-drop}
 
 -- ---- the number of a consecutive frame fixes the frame
 
-count-rises : (d : Dir) (l : List Entry) (j k : ℕ) (x : Entry) → j < k → slice_get l j ≡ Some x → consecutive_by (role d x) ≡ 1
+count-rises : (d : Channel) (l : List Entry) (j k : ℕ) (x : Entry) → j < k → slice_get l j ≡ Some x → consecutive_by (role d x) ≡ 1
     → consecutive_frames_in d (take j l) + 1 ≤ consecutive_frames_in d (take k l)
 count-rises d [] j k x less at one = absurd (cc)
 count-rises d (y ∷ l) j zero x less at one = absurd (omega arith)
@@ -20,14 +20,14 @@ count-rises d (y ∷ l) zero (suc k) x less at one =
     (let same : y ≡ x = cc in let by : consecutive_by (role d y) ≡ 1 = ap (λ z. consecutive_by (role d z)) same ∙ one in omega arith)
 count-rises d (y ∷ l) (suc j) (suc k) x less at one = (let rest = count-rises d l j k x (omega arith) at one in omega arith)
 
-number-rises : (T : List Entry) (d : Dir) (i k c k' c' : ℕ) (x x' : Entry) → IsConsecutive T d i k c x → IsConsecutive T d i k' c' x' → c < c' → k < k'
+number-rises : (T : List Entry) (d : Channel) (i k c k' c' : ℕ) (x x' : Entry) → IsConsecutive T d i k c x → IsConsecutive T d i k' c' x' → c < c' → k < k'
 number-rises T d i k c k' c' x x' h g less =
     let later = h.later in
     let there : slice_get (drop (i + 1) T) (c - (i + 1)) ≡ Some x = sym (get-drop (i + 1) T (c - (i + 1)) c (omega arith)) ∙ h.stands in
     let rises = count-rises d (drop (i + 1) T) (c - (i + 1)) (c' - (i + 1)) x (omega arith) there h.kind in
     let a = h.counted in let b = g.counted in omega arith
 
-same-number : (T : List Entry) (d : Dir) (i k c c' : ℕ) (x x' : Entry) → IsConsecutive T d i k c x → IsConsecutive T d i k c' x' → x ≡ x'
+same-number : (T : List Entry) (d : Channel) (i k c c' : ℕ) (x x' : Entry) → IsConsecutive T d i k c x → IsConsecutive T d i k c' x' → x ≡ x'
 same-number T d i k c c' x x' h g = elim (cases_lt c c') [
   | inl before ↦ absurd (let less = number-rises T d i k c k c' x x' h g before in omega arith)
   | inr most ↦ elim (cases_lt c' c) [
@@ -39,7 +39,7 @@ same-number T d i k c c' x x' h g = elim (cases_lt c c') [
 
 -- ---- and so the message
 
-module _ (T : List Entry) (d : Dir) (i : ℕ) (e : Entry) (r : ℕ) (m n : List ℕ) (wide : 2 ≤ r) (a : AtPlaces T d i e r m) (b : AtPlaces T d i e r n) (size : length m ≡ length n) where
+module _ (T : List Entry) (d : Channel) (i : ℕ) (e : Entry) (r : ℕ) (m n : List ℕ) (wide : 2 ≤ r) (a : AtPlaces T d i e r m) (b : AtPlaces T d i e r n) (size : length m ≡ length n) where
   in_frames : (x q t : ℕ) → x < length m → t < r - 1 → x ≡ bytes_in_first e.frame.bytes + (q * (r - 1) + t) → get_or m x 0 ≡ get_or n x 0
   in_frames x q t inside less place =
       let one = a.in_consecutive q t less (omega arith) in

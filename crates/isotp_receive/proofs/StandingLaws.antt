@@ -1,7 +1,7 @@
 -- What stands is what is known of the reception that is open, and at most one is open.
 use Rattle.std.proofs.Common.{◌≡◌, ℕ, suc, ◌+◌, ◌<◌, ◌≤◌, true, List, ◌∷◌, ◌++◌, length, Some, refl, sym, ◌∙◌, ap, arith, inl, inr, subst}
 use Rattle.std.proofs.lemmas.Bool.{cases_lt}
-use Rattle.direction.specs.declared.Dir.{Dir}
+use Rattle.isotp_receive.specs.declared.channel.Channel.{Channel}
 use Rattle.isotp_receive.specs.Trace.{Entry, At, FirstFrame, FrameRole, first, role}
 use Rattle.isotp_receive.specs.Places.{bytes_in_first, bytes_before, consecutive_frames_in, between, AtPlaces}
 use Rattle.isotp_receive.specs.OnTime.{IsReference}
@@ -18,7 +18,7 @@ use Rattle.isotp_receive.proofs.SameMessage.{same-message}
 
 -- ---- what stands is open
 
-standing-here : (limit : ℕ) (d : Dir) (before : List Entry) (e0 : Entry) (s : FirstFrame) (since rest : List Entry) → role d e0 ≡ first s → is_open limit d s since ≡ true
+standing-here : (limit : ℕ) (d : Channel) (before : List Entry) (e0 : Entry) (s : FirstFrame) (since rest : List Entry) → role d e0 ≡ first s → is_open limit d s since ≡ true
     → IsStandingAt limit (before ++ e0 ∷ (since ++ rest)) d (suc (length before) + length since) (standing_of d s since)
 unfolding open-there
 standing-here limit d before e0 s since rest begins opens =
@@ -40,7 +40,7 @@ standing-here limit d before e0 s since rest begins opens =
       reference = ref.time;
     }
 
-pub stands-open : (limit : ℕ) (T rest : List Entry) (d : Dir) (st : StandingReception) → stands limit d T ≡ Some st → IsStandingAt limit (T ++ rest) d (length T) st
+pub stands-open : (limit : ℕ) (T rest : List Entry) (d : Channel) (st : StandingReception) → stands limit d T ≡ Some st → IsStandingAt limit (T ++ rest) d (length T) st
 stands-open limit T rest d st h =
     let w = found limit d T st h in
     subst (IsStandingAt limit (T ++ rest) d (length T)) (sym w.is)
@@ -50,7 +50,7 @@ stands-open limit T rest d st h =
 
 -- ---- what is open stands
 
-pub open-stands : (limit : ℕ) (T rest : List Entry) (d : Dir) (i k : ℕ) (o : IsOpenAt limit (T ++ rest) d i k (length T))
+pub open-stands : (limit : ℕ) (T rest : List Entry) (d : Channel) (i k : ℕ) (o : IsOpenAt limit (T ++ rest) d i k (length T))
     → (st : StandingReception) × (stands limit d T ≡ Some st) × (st.line ≡ o.begins.start.line) × (st.len ≡ o.begins.start.len) × (st.taken ≡ k)
 open-stands limit T rest d i k o =
     let w = stands-there limit d T rest i k o in (
@@ -67,7 +67,7 @@ open-stands limit T rest d i k o =
 pub no-first : (s x : FirstFrame) (f n j : ℕ) (on : Type 0) (r : FrameRole) → r ≡ first x → LeavesOpen s f n j on r → ⊥
 no-first s x f n j on r is h = rw is at h
 
-pub one-open : (limit : ℕ) (T : List Entry) (d : Dir) (i k j l p : ℕ) → IsOpenAt limit T d i k p → IsOpenAt limit T d j l p → (i ≡ j) × (k ≡ l)
+pub one-open : (limit : ℕ) (T : List Entry) (d : Channel) (i k j l p : ℕ) → IsOpenAt limit T d i k p → IsOpenAt limit T d j l p → (i ≡ j) × (k ≡ l)
 one-open limit T d i k j l p a b = (same, a.taken ∙ ap (λ q. consecutive_frames_in d (between T q p)) same ∙ sym b.taken) where
   apart : (i k j l : ℕ) → IsOpenAt limit T d i k p → IsOpenAt limit T d j l p → i < j → ⊥
   apart i k j l a b less = no-first a.begins.start b.begins.start _ _ _ _ (role d b.begins.entry) b.begins.kind (a.each j b.begins.entry less b.later b.begins.stands)
@@ -95,7 +95,7 @@ same-record x y line len rx_dl taken bytes reference =
     ∙ ap (λ v. record { line = y.line; len = y.len; rx_dl = y.rx_dl; taken = y.taken; bytes = v; reference = x.reference }) bytes
     ∙ ap (λ v. record { line = y.line; len = y.len; rx_dl = y.rx_dl; taken = y.taken; bytes = y.bytes; reference = v }) reference
 
-same-standing : (limit : ℕ) (T : List Entry) (d : Dir) (p : ℕ) (x y : StandingReception) → IsStandingAt limit T d p x → IsStandingAt limit T d p y → x ≡ y
+same-standing : (limit : ℕ) (T : List Entry) (d : Channel) (p : ℕ) (x y : StandingReception) → IsStandingAt limit T d p x → IsStandingAt limit T d p y → x ≡ y
 same-standing limit T d p x y a b =
     let one = one-open limit T d a.begun a.number b.begun b.number p a.is_open b.is_open in
     let there : At T a.begun b.is_open.begins.entry = subst (λ j. At T j b.is_open.begins.entry) (sym one.0) b.is_open.begins.stands in
@@ -120,14 +120,14 @@ same-standing limit T d p x y a b =
     (a.reference ∙ ap (λ e. e.micros) last ∙ sym b.reference)
 
 -- and so it is what stands
-pub standing-is-fixed : (limit : ℕ) (T rest : List Entry) (d : Dir) (st : StandingReception) → IsStandingAt limit (T ++ rest) d (length T) st → stands limit d T ≡ Some st
+pub standing-is-fixed : (limit : ℕ) (T rest : List Entry) (d : Channel) (st : StandingReception) → IsStandingAt limit (T ++ rest) d (length T) st → stands limit d T ≡ Some st
 standing-is-fixed limit T rest d st a =
     let w = open-stands limit T rest d a.begun a.number a.is_open in
     w.1 ∙ ap Some (same-standing limit (T ++ rest) d (length T) w.0 st (stands-open limit T rest d w.0 w.1) a)
 
 -- ---- what a pair keeps for a direction
 
-pub kept-bytes : (limit : ℕ) (T : List Entry) (d : Dir) (st : StandingReception) → stands limit d T ≡ Some st → (st.len ≤ limit) × (length st.bytes < st.len)
+pub kept-bytes : (limit : ℕ) (T : List Entry) (d : Channel) (st : StandingReception) → stands limit d T ≡ Some st → (st.len ≤ limit) × (length st.bytes < st.len)
 kept-bytes limit T d st h =
     let w = found limit d T st h in
     let after = open-after limit d w.s w.since w.opens in

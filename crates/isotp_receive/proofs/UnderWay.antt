@@ -1,6 +1,6 @@
 -- A message of a recording that is under way in a direction, and what a frame that is none of its frames leaves of it.
 use Rattle.std.proofs.Common.{◌≡◌, ℕ, suc, ◌+◌, ◌≤◌, List, [], ◌∷◌, length, take, Option, Some, refl, arith}
-use Rattle.direction.specs.declared.Dir.{Dir}
+use Rattle.isotp_receive.specs.declared.channel.Channel.{Channel}
 use Rattle.isotp_receive.specs.Trace.{Entry, FirstFrame, continue_or_wait, no_part, role, At}
 use Rattle.isotp_receive.specs.Places.{bytes_before, IsConsecutiveCount}
 use Rattle.isotp_receive.specs.OnTime.{IsReference}
@@ -11,7 +11,7 @@ use Rattle.isotp_receive.proofs.References.{still, moved}
 
 -- How far the message has come before position n: it began at `begun`, `number` of its `count` consecutive frames have
 -- come, and those at the positions cs are left.
-pub record UnderWay (T : List Entry) (d : Dir) (n : ℕ) (st : StandingReception) (m : List ℕ) (cs : List ℕ) : Type 0 where
+pub record UnderWay (T : List Entry) (d : Channel) (n : ℕ) (st : StandingReception) (m : List ℕ) (cs : List ℕ) : Type 0 where
   pub begun : ℕ
   pub start : FirstFrame
   pub in_first : ℕ
@@ -34,12 +34,12 @@ pub record UnderWay (T : List Entry) (d : Dir) (n : ℕ) (st : StandingReception
 
 -- How a direction stands before position n: no message is under way, whatever stands there from before; or one is, with
 -- the positions that are left of it, and it will be delivered at the last of them.
-pub data State (T : List Entry) (d : Dir) (n : ℕ) : Option StandingReception → List ℕ → List (ℕ × List ℕ) → Type 0 where
+pub data State (T : List Entry) (d : Channel) (n : ℕ) : Option StandingReception → List ℕ → List (ℕ × List ℕ) → Type 0 where
   closed : {o : Option StandingReception} → State T d n o [] []
   opened : {st : StandingReception} {m : List ℕ} {c : ℕ} {cs : List ℕ} → UnderWay T d n st m (c ∷ cs) → State T d n (Some st) (c ∷ cs) ((last_or c cs, m) ∷ [])
 
 -- the same message, one frame later
-reopen : (T : List Entry) (d : Dir) (n : ℕ) (st : StandingReception) (m : List ℕ) (cs : List ℕ) (s : UnderWay T d n st m cs) (t q : ℕ) (e : Entry)
+reopen : (T : List Entry) (d : Channel) (n : ℕ) (st : StandingReception) (m : List ℕ) (cs : List ℕ) (s : UnderWay T d n st m cs) (t q : ℕ) (e : Entry)
     → IsReference T d s.begun (suc n) q → At T q e → t ≡ e.micros → UnderWay T d (suc n) (record st { reference = t }) m cs
 reopen T d n st m cs s t q e refers at time = record {
   begun = s.begun;
@@ -63,13 +63,13 @@ reopen T d n st m cs s t q e refers at time = record {
   time = time;
 }
 
-pub behind-no-part : (T : List Entry) (d : Dir) (n : ℕ) (o : Option StandingReception) (cs : List ℕ) (out : List (ℕ × List ℕ)) (e : Entry)
+pub behind-no-part : (T : List Entry) (d : Channel) (n : ℕ) (o : Option StandingReception) (cs : List ℕ) (out : List (ℕ × List ℕ)) (e : Entry)
     → At T n e → role d e ≡ no_part → State T d n o cs out → State T d (suc n) o cs out
 behind-no-part T d n _ _ _ e at kind closed = closed
 behind-no-part T d n _ _ _ e at kind (opened {st = st} {m = m} {c = c} {cs = cs} s) =
     opened (reopen T d n st m (c ∷ cs) s st.reference s.latest s.last (still T d n s.begun s.latest e at kind s.refers) s.at s.time)
 
-pub behind-continue-or-wait : (T : List Entry) (d : Dir) (n limit : ℕ) (o : Option StandingReception) (cs : List ℕ) (out : List (ℕ × List ℕ)) (e : Entry)
+pub behind-continue-or-wait : (T : List Entry) (d : Channel) (n limit : ℕ) (o : Option StandingReception) (cs : List ℕ) (out : List (ℕ × List ℕ)) (e : Entry)
     → At T n e → role d e ≡ continue_or_wait → State T d n o cs out → State T d (suc n) (after limit o e.micros continue_or_wait) cs out
 behind-continue-or-wait T d n limit _ _ _ e at kind closed = closed
 behind-continue-or-wait T d n limit _ _ _ e at kind (opened {st = st} {m = m} {c = c} {cs = cs} s) =

@@ -5,9 +5,9 @@ use Rattle.direction.specs.declared.Dir.{Dir}
 use Rattle.direction.specs.declared.Dir.TheVariants.{Tester, Unit}
 use Rattle.isotp_pdu.specs.Layout.{Layout}
 use Rattle.isotp_pdu.specs.Layout as layout
-use Rattle.isotp_pdu.specs.Reading.{layout_of}
-use Rattle.isotp_pdu.specs.declared.PduFault.{PduFault}
-use Rattle.isotp_receive.specs.Trace.{Entry, same_direction}
+use Rattle.isotp_receive.specs.Channels.{dir_of}
+use Rattle.isotp_receive.specs.declared.event.Reason.{Reason}
+use Rattle.isotp_receive.specs.Trace.{Entry, same_direction, layout_in}
 use Rattle.isotp_receive.specs.StandingReception.{StandingReception, Receptions, receptions_after, of_direction}
 
 -- the bytes of a message that have come, and for how many there is memory
@@ -36,7 +36,7 @@ capacity_of pair Tester = pair.tester_capacity
 capacity_of pair Unit = pair.unit_capacity
 
 -- where this stood for the direction of a frame: how many bytes its message was announced with, if it is one that is received
-abbrev pub announced_with : ℕ → Option StandingReception → Result Layout PduFault → ℕ
+abbrev pub announced_with : ℕ → Option StandingReception → Result Layout Reason → ℕ
 announced_with limit standing (Ok (layout.first len rx_dl bytes)) = if nat_le len limit then len else 0
 announced_with limit None (Ok (layout.consecutive sequence_number can_dl bytes)) = 0
 announced_with limit (Some standing) (Ok (layout.consecutive sequence_number can_dl bytes)) = standing.len
@@ -45,7 +45,7 @@ announced_with limit standing (Ok (layout.flow_control status)) = 0
 announced_with limit standing (Err fault) = 0
 
 -- and how many of these bytes have come with the frame; what a last frame is padded with is none of them
-abbrev pub come_with : Option StandingReception → Result Layout PduFault → ℕ
+abbrev pub come_with : Option StandingReception → Result Layout Reason → ℕ
 come_with standing (Ok (layout.first len rx_dl bytes)) = length bytes
 come_with None (Ok (layout.consecutive sequence_number can_dl bytes)) = 0
 come_with (Some standing) (Ok (layout.consecutive sequence_number can_dl bytes)) = min standing.len (length standing.bytes + length bytes)
@@ -61,7 +61,7 @@ pub record GrowsWithin (announced come old new : ℕ) : Type 0 where
 
 -- By a frame of direction d the capacity of d grows within what its message was announced with and what has come of it, and
 -- that of the other direction stays.
-pub record CapacitiesGrow (limit : ℕ) (d : Dir) (read : Result Layout PduFault) (old new : PairValue) : Type 0 where
+pub record CapacitiesGrow (limit : ℕ) (d : Dir) (read : Result Layout Reason) (old new : PairValue) : Type 0 where
   pub own : GrowsWithin (announced_with limit (of_direction old.receptions d) read) (come_with (of_direction old.receptions d) read)
       (capacity_of old d) (capacity_of new d)
   pub other : capacity_of new (other_direction d) ≡ capacity_of old (other_direction d)
@@ -70,7 +70,7 @@ pub record CapacitiesGrow (limit : ℕ) (d : Dir) (read : Result Layout PduFault
 pub record TakesOne (limit : ℕ) (pair : PairValue) (e : Entry) (new : PairValue) : Type 0 where
   pub before : List Entry
   pub stood : pair.receptions ≡ receptions_after limit before
-  pub grew : CapacitiesGrow limit e.dir (layout_of e.frame) pair new
+  pub grew : CapacitiesGrow limit (dir_of e.channel) (layout_in e) pair new
 
 -- a run: the frames that a pair takes one after another, each with the pair after it
 abbrev pub IsRun : ℕ → PairValue → List (Entry × PairValue) → Type 0
@@ -84,7 +84,7 @@ end_of pair (step ∷ rest) = end_of step.1 rest
 
 -- how many bytes of a message of d had come with the frame e, where these receptions stood before it
 abbrev pub come_of : Dir → Receptions → Entry → ℕ
-come_of d receptions e = if same_direction d e.dir then come_with (of_direction receptions d) (layout_of e.frame) else 0
+come_of d receptions e = if same_direction d (dir_of e.channel) then come_with (of_direction receptions d) (layout_in e) else 0
 
 -- the most bytes of one message of d that had come in a run
 abbrev pub most_come : Dir → PairValue → List (Entry × PairValue) → ℕ
@@ -122,4 +122,4 @@ NewPairKeepsWithin = (limit : ℕ) → KeepsWithin limit [] (new_pair limit)
 abbrev pub OneMoreKeepsWithin : Type 0
 OneMoreKeepsWithin =
     (limit : ℕ) (T : List Entry) (e : Entry) (old new : PairValue) → old.receptions ≡ receptions_after limit T → KeepsWithin limit T old
-    → CapacitiesGrow limit e.dir (layout_of e.frame) old new → KeepsWithin limit (T ++ e ∷ []) new
+    → CapacitiesGrow limit (dir_of e.channel) (layout_in e) old new → KeepsWithin limit (T ++ e ∷ []) new

@@ -1,6 +1,7 @@
 -- A trace in which nothing went wrong, by what the receptions answer.
 use Rattle.std.specs.Prelude.{None, ◌≡◌, ℕ, List, [], ◌∷◌, ◌++◌, ⊤}
 use Rattle.direction.specs.declared.Dir.{Dir}
+use Rattle.isotp_receive.specs.Channels.{channel_of}
 use Rattle.isotp_receive.specs.Trace.{Entry}
 use Rattle.isotp_receive.specs.StandingReception.{stands}
 use Rattle.isotp_receive.specs.Verdict.{VerdictValue, message, began, stored, flowed, dropped, EventValue, verdict}
@@ -26,4 +27,4 @@ EachClean limit past (e ∷ rest) = IsCleanEvent (verdict limit past e) × EachC
 -- No frame of the trace is dropped, none ends a reception, and nothing stands at its end.
 pub record IsClean (limit : ℕ) (T : List Entry) : Type 0 where
   pub each : EachClean limit [] T
-  pub finished : (d : Dir) → stands limit d T ≡ None
+  pub finished : (d : Dir) → stands limit (channel_of d) T ≡ None

@@ -2,10 +2,9 @@
 use Rattle.std.specs.Prelude.{ℕ, ◌+◌, Bool, true, false, List, [], ◌∷◌, ◌++◌, nat_le, is_some, Option, Some, None, Result, Ok, Err, if◌then◌else◌}
 use Rattle.std.specs.List.{count_by}
 use Rattle.std.specs.Option.{option_len}
-use Rattle.direction.specs.declared.Dir.TheVariants as dir
+use Rattle.isotp_receive.specs.declared.channel.Channel.TheVariants as dir
 use Rattle.isotp_pdu.specs.Layout.{Layout}
 use Rattle.isotp_pdu.specs.Layout as layout
-use Rattle.isotp_pdu.specs.declared.PduFault.{PduFault}
 use Rattle.isotp_receive.specs.declared.event.Reason.{Reason}
 use Rattle.isotp_receive.specs.declared.event.Reason.TheVariants as reason
 use Rattle.isotp_receive.specs.StandingReception.{stands}
@@ -42,7 +41,7 @@ abbrev pub unfinished_in : ℕ → List Entry → ℕ
 unfinished_in limit T = option_len (stands limit dir.Tester T) + option_len (stands limit dir.Unit T)
 
 -- the length that a first frame announces, where it is above the limit
-abbrev pub oversize_in : ℕ → Result Layout PduFault → Option ℕ
+abbrev pub oversize_in : ℕ → Result Layout Reason → Option ℕ
 oversize_in limit (Ok (layout.first announced rx_dl bytes)) = if nat_le announced limit then None else Some announced
 oversize_in limit (Ok (layout.single whole)) = None
 oversize_in limit (Ok (layout.consecutive sequence_number can_dl bytes)) = None
@@ -53,6 +52,7 @@ oversize_in limit (Err fault) = None
 abbrev pub announced_by : Reason → Option ℕ
 announced_by (reason.TooLong announced) = Some announced
 announced_by (reason.Pdu fault) = None
+announced_by reason.FunctionalNotSingle = None
 announced_by reason.FlowUnexpected = None
 announced_by reason.NextUnexpected = None
 announced_by reason.NextLate = None

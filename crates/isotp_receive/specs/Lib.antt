@@ -1,3 +1,4 @@
+pub mod Channels
 pub mod Trace
 pub mod Places
 pub mod OnTime

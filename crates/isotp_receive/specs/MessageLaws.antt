@@ -3,10 +3,9 @@ use Rattle.std.specs.Prelude.{◌≡◌, ◌≤◌, ◌↔◌, ℕ, List, ◌++�
 use Rattle.std.specs.List.{AllByRecursion}
 use Rattle.direction.specs.Dir.{Message}
 use Rattle.can_log.specs.Frame.{AreBytes}
-use Rattle.direction.specs.declared.Dir.{Dir}
+use Rattle.isotp_receive.specs.declared.channel.Channel.{Channel}
 use Rattle.isotp_pdu.specs.Layout as layout
-use Rattle.isotp_pdu.specs.Reading.{layout_of}
-use Rattle.isotp_receive.specs.Trace.{Entry, FirstFrame, first, role}
+use Rattle.isotp_receive.specs.Trace.{Entry, FirstFrame, first, role, layout_in}
 use Rattle.isotp_receive.specs.Verdict.{messages, messages_after, verdict}
 use Rattle.isotp_receive.specs.CleanTrace.{IsClean, IsKept}
 use Rattle.isotp_receive.specs.Events.{events_after, events, dropped_in, ended_in, unfinished_in, oversize_in, too_long_in}
@@ -40,18 +39,18 @@ EventsGoOn = (limit : ℕ) (T more : List Entry) → events limit (T ++ more) �
 abbrev pub EventsAreAsMany : Type 0
 EventsAreAsMany = (limit : ℕ) (T : List Entry) → length (events limit T) ≡ length T
 
--- what is a first frame to the reception of a direction was sent by that direction, and has this layout
+-- what is a first frame to the reception of a channel was sent on that channel, and has this layout
 abbrev pub FirstFrameIsRead : Type 0
-FirstFrameIsRead = (d : Dir) (e : Entry) (start : FirstFrame) → role d e ≡ first start
-    → (d ≡ e.dir) × (layout_of e.frame ≡ Ok (layout.first start.len start.rx_dl start.bytes))
+FirstFrameIsRead = (d : Channel) (e : Entry) (start : FirstFrame) → role d e ≡ first start
+    → (d ≡ e.channel) × (layout_in e ≡ Ok (layout.first start.len start.rx_dl start.bytes))
 
 -- a frame is dropped as too long exactly where it announces a length above the limit, and with that length
 abbrev pub TooLongIsAnnounced : Type 0
-TooLongIsAnnounced = (limit : ℕ) (T : List Entry) (e : Entry) → too_long_in (verdict limit T e).verdict ≡ oversize_in limit (layout_of e.frame)
+TooLongIsAnnounced = (limit : ℕ) (T : List Entry) (e : Entry) → too_long_in (verdict limit T e).verdict ≡ oversize_in limit (layout_in e)
 
 -- so a frame that is not dropped announces none
 abbrev pub KeptIsWithin : Type 0
-KeptIsWithin = (limit : ℕ) (T : List Entry) (e : Entry) → IsKept (verdict limit T e).verdict → oversize_in limit (layout_of e.frame) ≡ None
+KeptIsWithin = (limit : ℕ) (T : List Entry) (e : Entry) → IsKept (verdict limit T e).verdict → oversize_in limit (layout_in e) ≡ None
 
 -- a trace is clean exactly where nothing of it is counted as dropped, ended or unfinished
 abbrev pub CleanIsCounted : Type 0

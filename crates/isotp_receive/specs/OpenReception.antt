@@ -1,7 +1,7 @@
 -- Receptions that are open (ISO 15765-2, sections 9.6 and 9.8), by looking back over the whole trace. This is what is to be
 -- judged: it speaks of positions, as the standard does, and has no state that goes from frame to frame.
 use Rattle.std.specs.Prelude.{◌≡◌, ◌<◌, ◌≤◌, ℕ, ◌+◌, List, length, ⊤}
-use Rattle.direction.specs.declared.Dir.{Dir}
+use Rattle.isotp_receive.specs.declared.channel.Channel.{Channel}
 use Rattle.isotp_receive.specs.Trace.{Entry, At, FirstFrame, FirstFrameAt, ConsecutiveFrameAt, FrameRole, single, first, consecutive, continue_or_wait, overflow, no_part, role}
 use Rattle.isotp_receive.specs.Places.{bytes_in_first, bytes_before, IsConsecutiveCount, FitsAs, consecutive_frames_in, between, AtPlaces}
 use Rattle.isotp_receive.specs.OnTime.{IsReference, IsOnTime}
@@ -22,7 +22,7 @@ LeavesOpen start in_first count before OnTime no_part = ⊤
 
 -- The reception of d that began at `begun` is open at `position`, after `number` consecutive frames. The position may be
 -- one past the end of T.
-pub record IsOpenAt (limit : ℕ) (T : List Entry) (d : Dir) (begun number position : ℕ) : Type 0 where
+pub record IsOpenAt (limit : ℕ) (T : List Entry) (d : Channel) (begun number position : ℕ) : Type 0 where
   pub later : begun < position
   pub inside : position ≤ length T
   -- at `begun` is a first frame of d that announces at most the limit
@@ -40,7 +40,7 @@ pub record IsOpenAt (limit : ℕ) (T : List Entry) (d : Dir) (begun number posit
   pub more : number < count
 
 -- At `position` stands a consecutive frame of d, where a reception is open, and it fits so as the next one.
-pub record FitsOpen (limit : ℕ) (T : List Entry) (d : Dir) (position : ℕ) (fit : Fit) : Type 0 where
+pub record FitsOpen (limit : ℕ) (T : List Entry) (d : Channel) (position : ℕ) (fit : Fit) : Type 0 where
   pub begun : ℕ
   pub number : ℕ
   pub is_open : IsOpenAt limit T d begun number position
@@ -50,7 +50,7 @@ pub record FitsOpen (limit : ℕ) (T : List Entry) (d : Dir) (position : ℕ) (f
 
 -- What stands at `position` for d: a reception is open there, and this is what is known of it. Its bytes are those that
 -- have come.
-pub record IsStandingAt (limit : ℕ) (T : List Entry) (d : Dir) (position : ℕ) (standing : StandingReception) : Type 0 where
+pub record IsStandingAt (limit : ℕ) (T : List Entry) (d : Channel) (position : ℕ) (standing : StandingReception) : Type 0 where
   pub begun : ℕ
   pub number : ℕ
   pub is_open : IsOpenAt limit T d begun number position

@@ -1,6 +1,6 @@
 -- Where the bytes of a message are in its frames (ISO 15765-2, section 9.6).
 use Rattle.std.specs.Prelude.{◌≡◌, ◌<◌, ◌≤◌, ℕ, ◌+◌, ◌-◌, ◌*◌, ◌%◌, List, [], ◌∷◌, length, slice_index, slice_range, ◌==◌, if◌then◌else◌}
-use Rattle.direction.specs.declared.Dir.{Dir}
+use Rattle.isotp_receive.specs.declared.channel.Channel.{Channel}
 use Rattle.isotp_receive.specs.Trace.{Entry, At, FrameRole, single, first, consecutive, continue_or_wait, overflow, no_part, role}
 
 -- how many bytes of its message a first frame of these bytes holds, with 12 bits of length or with the escape
@@ -29,7 +29,7 @@ pub record FitsAs (in_first rx_dl len count number sequence_number can_dl : ℕ)
   pub last_low : number ≡ count → 1 + (len - bytes_before in_first rx_dl (count - 1)) ≤ can_dl
   pub last_high : number ≡ count → can_dl ≤ rx_dl
 
--- 1 for a consecutive frame of the direction, 0 for any other
+-- 1 for a consecutive frame on the channel, 0 for any other
 abbrev pub consecutive_by : FrameRole → ℕ
 consecutive_by (consecutive sequence_number can_dl bytes) = 1
 consecutive_by (single message) = 0
@@ -39,7 +39,7 @@ consecutive_by overflow = 0
 consecutive_by no_part = 0
 
 -- how many of the frames are consecutive frames of d
-abbrev pub consecutive_frames_in : Dir → List Entry → ℕ
+abbrev pub consecutive_frames_in : Channel → List Entry → ℕ
 consecutive_frames_in d [] = 0
 consecutive_frames_in d (e ∷ rest) = consecutive_by (role d e) + consecutive_frames_in d rest
 
@@ -48,7 +48,7 @@ abbrev pub between : List Entry → ℕ → ℕ → List Entry
 between T begun position = slice_range T (begun + 1) position
 
 -- the entry is at `position`, and is consecutive frame number `number` of d after the position `begun`
-pub record IsConsecutive (T : List Entry) (d : Dir) (begun number position : ℕ) (entry : Entry) : Type 0 where
+pub record IsConsecutive (T : List Entry) (d : Channel) (begun number position : ℕ) (entry : Entry) : Type 0 where
   pub later : begun < position
   pub stands : At T position entry
   pub kind : consecutive_by (role d entry) ≡ 1
@@ -57,7 +57,7 @@ pub record IsConsecutive (T : List Entry) (d : Dir) (begun number position : ℕ
 -- Each byte of the message is at its place, where its first frame, of CAN_DL `rx_dl`, is at `begun`: the first of the
 -- bytes in that frame, after the length, the others in the consecutive frames of d after it, `rx_dl - 1` in each, after
 -- the sequence number.
-pub record AtPlaces (T : List Entry) (d : Dir) (begun : ℕ) (entry : Entry) (rx_dl : ℕ) (message : List ℕ) : Type 0 where
+pub record AtPlaces (T : List Entry) (d : Channel) (begun : ℕ) (entry : Entry) (rx_dl : ℕ) (message : List ℕ) : Type 0 where
   pub in_first : (place : ℕ) → place < length message → place < bytes_in_first entry.frame.bytes
       → slice_index message place ≡ slice_index entry.frame.bytes (rx_dl - bytes_in_first entry.frame.bytes + place)
   pub in_consecutive : (before offset : ℕ) → offset < rx_dl - 1

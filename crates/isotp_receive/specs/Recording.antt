@@ -3,20 +3,20 @@
 use Rattle.std.specs.Prelude.{◌≡◌, ◌<◌, ◌≤◌, ℕ, suc, ◌+◌, ◌-◌, List, [], ◌∷◌, length, map, slice_index, nat_lt, Result, Ok, Err, ⊤, ◌⊎◌, if◌then◌else◌}
 use Rattle.std.specs.List.{AllByRecursion}
 use Rattle.direction.specs.Dir.{Message}
-use Rattle.direction.specs.declared.Dir.{Dir}
+use Rattle.isotp_receive.specs.declared.channel.Channel.{Channel}
 use Rattle.isotp_pdu.specs.Layout.{Layout}
-use Rattle.isotp_pdu.specs.Reading.{layout_of}
+use Rattle.isotp_receive.specs.Channels.{dir_of}
 use Rattle.isotp_pdu.specs.Layout as layout
-use Rattle.isotp_pdu.specs.declared.PduFault.{PduFault}
+use Rattle.isotp_receive.specs.declared.event.Reason.{Reason}
 use Rattle.isotp_pdu.specs.declared.Status.TheVariants.{Continue, Wait, Overflow}
-use Rattle.isotp_receive.specs.Trace.{Entry, At, FirstFrame, SingleFrameAt, FirstFrameAt, ConsecutiveFrameAt}
+use Rattle.isotp_receive.specs.Trace.{Entry, At, layout_in, FirstFrame, SingleFrameAt, FirstFrameAt, ConsecutiveFrameAt}
 use Rattle.isotp_receive.specs.Places.{bytes_in_first, bytes_before, IsConsecutiveCount, FitsAs}
 use Rattle.isotp_receive.specs.OnTime.{IsOnTime}
 
 -- At the position is consecutive frame number `number` of `count` of the message, whose first frame is at `begun`
 -- and holds `in_first` bytes: it fits as that number, is on time, and holds the bytes of the message that come next, as far
 -- as the message goes; what follows them is padding of any value (section 9.6.4).
-pub record IsConsecutiveFrame (T : List Entry) (d : Dir) (message : List ℕ) (begun : ℕ) (start : FirstFrame)
+pub record IsConsecutiveFrame (T : List Entry) (d : Channel) (message : List ℕ) (begun : ℕ) (start : FirstFrame)
     (in_first count number position : ℕ) : Type 0 where
   pub next : ConsecutiveFrameAt T d position
   pub fits : FitsAs in_first start.rx_dl start.len count number next.sequence_number next.can_dl
@@ -31,7 +31,7 @@ EachNumbered Holds number (position ∷ positions) = Holds number position × Ea
 
 -- At `begun` is a first frame that announces the length of the message, and at the further positions are the
 -- consecutive frames, as many as are needed, with the bytes of the message.
-pub record IsSegmented (T : List Entry) (d : Dir) (message : List ℕ) (begun : ℕ) (positions : List ℕ) : Type 0 where
+pub record IsSegmented (T : List Entry) (d : Channel) (message : List ℕ) (begun : ℕ) (positions : List ℕ) : Type 0 where
   pub begins : FirstFrameAt T d begun
   pub announces : begins.start.len ≡ length message
   pub least : IsConsecutiveCount (bytes_in_first begins.entry.frame.bytes) begins.start.rx_dl begins.start.len (length positions)
@@ -40,9 +40,9 @@ pub record IsSegmented (T : List Entry) (d : Dir) (message : List ℕ) (begun : 
   pub holds : (place : ℕ) → place < bytes_in_first begins.entry.frame.bytes
       → slice_index message place ≡ slice_index begins.entry.frame.bytes (begins.start.rx_dl - bytes_in_first begins.entry.frame.bytes + place)
 
--- The frames at these positions carry the message of direction d: one single frame that holds it, or a first frame and
+-- The frames at these positions carry the message on the channel d: one single frame that holds it, or a first frame and
 -- its consecutive frames.
-pub data Carries (T : List Entry) (d : Dir) (message : List ℕ) : List ℕ → Type 0 where
+pub data Carries (T : List Entry) (d : Channel) (message : List ℕ) : List ℕ → Type 0 where
   unsegmented : {position : ℕ} → SingleFrameAt T d position message → Carries T d message (position ∷ [])
   segmented : {begun : ℕ} {positions : List ℕ} → IsSegmented T d message begun positions → Carries T d message (begun ∷ positions)
 
@@ -53,7 +53,7 @@ IsRisingFrom least (position ∷ positions) = (least ≤ position) × IsRisingFr
 
 -- a message and the positions that it is given
 pub record Transfer : Type 0 where
-  pub dir : Dir
+  pub channel : Channel
   pub message : List ℕ
   pub positions : List ℕ
 
@@ -62,7 +62,7 @@ pub record IsTransfer (limit : ℕ) (T : List Entry) (transfer : Transfer) : Typ
   pub some : 1 ≤ length transfer.message
   pub fits : length transfer.message ≤ limit
   pub rising : IsRisingFrom 0 transfer.positions
-  pub carried : Carries T transfer.dir transfer.message transfer.positions
+  pub carried : Carries T transfer.channel transfer.message transfer.positions
 
 -- the position is one of these
 abbrev pub IsIn : ℕ → List ℕ → Type 0
@@ -78,11 +78,11 @@ last_or position (next ∷ positions) = last_or next positions
 abbrev pub AllBefore : List ℕ → List ℕ → Type 0
 AllBefore earlier later = (before after : ℕ) → IsIn before earlier → IsIn after later → before < after
 
--- A message and a later one share no position; in one direction all frames of one come before all of the other; and the
--- later one ends later. Messages of different directions may interleave.
+-- A message and a later one share no position; on one channel all frames of one come before all of the other; and the
+-- later one ends later. Messages on different channels may interleave.
 pub record AreApart (earlier later : Transfer) : Type 0 where
   pub shared : (position : ℕ) → IsIn position earlier.positions → IsIn position later.positions → ⊥
-  pub apart : earlier.dir ≡ later.dir → AllBefore earlier.positions later.positions ⊎ AllBefore later.positions earlier.positions
+  pub apart : earlier.channel ≡ later.channel → AllBefore earlier.positions later.positions ⊎ AllBefore later.positions earlier.positions
   pub order : last_or 0 earlier.positions < last_or 0 later.positions
 
 -- `Holds` of each of the messages and each later one
@@ -96,7 +96,7 @@ IsGiven position [] = ⊥
 IsGiven position (transfer ∷ transfers) = IsIn position transfer.positions ⊎ IsGiven position transfers
 
 -- a continue frame, a wait frame (section 9.6.5) or a frame without a layout
-abbrev pub IsIdle : Result Layout PduFault → Type 0
+abbrev pub IsIdle : Result Layout Reason → Type 0
 IsIdle (Ok (layout.flow_control Continue)) = ⊤
 IsIdle (Ok (layout.flow_control Wait)) = ⊤
 IsIdle (Ok (layout.flow_control Overflow)) = ⊥
@@ -109,14 +109,14 @@ IsIdle (Err fault) = ⊤
 -- every other position holds a frame that carries nothing.
 pub record IsRecording (limit : ℕ) (T : List Entry) (M : List Message) : Type 0 where
   pub transfers : List Transfer
-  pub messages : map (λ transfer. (transfer.dir, transfer.message)) transfers ≡ M
+  pub messages : map (λ transfer. (dir_of transfer.channel, transfer.message)) transfers ≡ M
   pub each : AllByRecursion (IsTransfer limit T) transfers
   pub pairs : EachPair AreApart transfers
-  pub others : (position : ℕ) (e : Entry) → At T position e → IsGiven position transfers ⊎ IsIdle (layout_of e.frame)
+  pub others : (position : ℕ) (e : Entry) → At T position e → IsGiven position transfers ⊎ IsIdle (layout_in e)
 
 -- the messages that end at one of the first `count` positions
 abbrev pub ended_within : ℕ → List Transfer → List Message
 ended_within count [] = []
 ended_within count (transfer ∷ transfers) =
-    if nat_lt (last_or 0 transfer.positions) count then (transfer.dir, transfer.message) ∷ ended_within count transfers
+    if nat_lt (last_or 0 transfer.positions) count then (dir_of transfer.channel, transfer.message) ∷ ended_within count transfers
     else ended_within count transfers

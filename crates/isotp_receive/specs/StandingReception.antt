@@ -1,15 +1,17 @@
--- The reception of a direction that stands after a list of frames: a function that looks back over the whole list. It is
+-- The reception of a channel that stands after a list of frames: a function that looks back over the whole list. It is
 -- the short spelling, for contracts and proofs, of `IsOpenAt` and `IsStandingAt`; public laws join them both ways. It stays
 -- beside them since a caller in a loop needs an equation, and a relation gives none.
 use Rattle.std.specs.Prelude.{ℕ, ◌+◌, ◌-◌, ◌%◌, Bool, true, false, ◌&&◌, List, [], ◌∷◌, ◌++◌, length, not, nat_lt, nat_le, ◌==◌, if◌then◌else◌, Option, Some, None}
+use Rattle.isotp_receive.specs.declared.channel.Channel.{Channel}
+use Rattle.isotp_receive.specs.declared.channel.Channel.TheVariants.{Tester, Unit}
 use Rattle.direction.specs.declared.Dir.{Dir}
-use Rattle.direction.specs.declared.Dir.TheVariants.{Tester, Unit}
+use Rattle.direction.specs.declared.Dir.TheVariants as dir
 use Rattle.isotp_receive.specs.Trace.{Entry, FirstFrame, FrameRole, single, first, consecutive, continue_or_wait, overflow, no_part, role}
 use Rattle.isotp_receive.specs.Places.{bytes_before, consecutive_frames_in}
 use Rattle.isotp_receive.specs.OnTime.{n_cr}
 use Rattle.isotp_receive.specs.Fit.{Fit, late, wrong_number, wrong_length, one_more, last}
 
--- the bytes that the consecutive frames of the direction carry
+-- the bytes that a frame of this role carries, if it is a consecutive one
 abbrev pub carried_by : FrameRole → List ℕ
 carried_by (consecutive sequence_number can_dl bytes) = bytes
 carried_by (single message) = []
@@ -18,8 +20,8 @@ carried_by continue_or_wait = []
 carried_by overflow = []
 carried_by no_part = []
 
--- and of all in the list, end to end
-abbrev pub carried : Dir → List Entry → List ℕ
+-- and all in the list, end to end
+abbrev pub carried : Channel → List Entry → List ℕ
 carried d [] = []
 carried d (e ∷ rest) = carried_by (role d e) ++ carried d rest
 
@@ -33,7 +35,7 @@ referred overflow micros earlier = earlier
 referred no_part micros earlier = earlier
 
 -- and after all in the list: the time of the last of them that is consecutive, continue or wait, if there is one
-abbrev pub reference : Dir → ℕ → List Entry → ℕ
+abbrev pub reference : Channel → ℕ → List Entry → ℕ
 reference d earlier [] = earlier
 reference d earlier (e ∷ rest) = reference d (referred (role d e) e.micros earlier) rest
 
@@ -48,7 +50,7 @@ pub record StandingReception : Type 0 where
   pub reference : ℕ
 
 -- of the one that began with `start`, after these frames
-abbrev pub standing_of : Dir → FirstFrame → List Entry → StandingReception
+abbrev pub standing_of : Channel → FirstFrame → List Entry → StandingReception
 standing_of d start frames = record {
   line = start.line;
   len = start.len;
@@ -103,7 +105,7 @@ is_next one_more = true
 is_next last = true
 
 -- The frame leaves a reception open that began with `start`, where `past` stands between the two.
-abbrev pub keeps_by : Dir → FirstFrame → List Entry → ℕ → FrameRole → Bool
+abbrev pub keeps_by : Channel → FirstFrame → List Entry → ℕ → FrameRole → Bool
 keeps_by d start past micros (consecutive sequence_number can_dl bytes) =
     is_next (fit_of (standing_of d start past) micros sequence_number can_dl)
 keeps_by d start past micros overflow = nat_lt 0 (consecutive_frames_in d past)
@@ -113,17 +115,17 @@ keeps_by d start past micros continue_or_wait = true
 keeps_by d start past micros no_part = true
 
 -- each of the frames does, where `past` stands before them
-abbrev pub keep : Dir → FirstFrame → List Entry → List Entry → Bool
+abbrev pub keep : Channel → FirstFrame → List Entry → List Entry → Bool
 keep d start past [] = true
 keep d start past (e ∷ rest) = keeps_by d start past e.micros (role d e) && keep d start (past ++ e ∷ []) rest
 
 -- a reception that began with `start` is open after these frames, and not complete
-abbrev pub is_open : ℕ → Dir → FirstFrame → List Entry → Bool
+abbrev pub is_open : ℕ → Channel → FirstFrame → List Entry → Bool
 is_open limit d start frames =
     nat_le start.len limit && (nat_lt (carried_after start (consecutive_frames_in d frames)) start.len && keep d start [] frames)
 
 -- the one that began with a frame of this role, and is open after these frames
-abbrev pub since : ℕ → Dir → FrameRole → List Entry → Option StandingReception
+abbrev pub since : ℕ → Channel → FrameRole → List Entry → Option StandingReception
 since limit d (first start) frames = if is_open limit d start frames then Some (standing_of d start frames) else None
 since limit d (single message) frames = None
 since limit d (consecutive sequence_number can_dl bytes) frames = None
@@ -136,8 +138,8 @@ abbrev pub or_else : Option StandingReception → Option StandingReception → O
 or_else (Some standing) other = Some standing
 or_else None other = other
 
--- the reception of the direction that stands after the frames
-abbrev pub stands : ℕ → Dir → List Entry → Option StandingReception
+-- the reception of the channel that stands after the frames
+abbrev pub stands : ℕ → Channel → List Entry → Option StandingReception
 stands limit d [] = None
 stands limit d (e ∷ rest) = or_else (since limit d (role d e) rest) (stands limit d rest)
 
@@ -150,7 +152,7 @@ pub record Receptions : Type 0 where
 abbrev pub receptions_after : ℕ → List Entry → Receptions
 receptions_after limit T = record { tester = stands limit Tester T; unit = stands limit Unit T }
 
--- the one of the direction
+-- the one of a direction
 abbrev pub of_direction : Receptions → Dir → Option StandingReception
-of_direction receptions Tester = receptions.tester
-of_direction receptions Unit = receptions.unit
+of_direction receptions dir.Tester = receptions.tester
+of_direction receptions dir.Unit = receptions.unit

@@ -1,20 +1,26 @@
--- A trace: the frames of the two directions in the order of the log, and what each is to the reception of a direction.
+-- A trace: the frames of the channels in the order of the log, and what each is to the reception of a channel.
 use Rattle.std.specs.Prelude.{ℕ, ◌≡◌, Bool, true, false, List, slice_get, if◌then◌else◌, Some, Result, Ok, Err}
 use Rattle.can_log.specs.Frame.{FrameValue}
 use Rattle.direction.specs.declared.Dir.{Dir}
-use Rattle.direction.specs.declared.Dir.TheVariants.{Tester, Unit}
+use Rattle.direction.specs.declared.Dir.TheVariants as dir
+use Rattle.isotp_receive.specs.declared.channel.Channel.{Channel}
+use Rattle.isotp_receive.specs.declared.event.Reason.{Reason}
+use Rattle.isotp_receive.specs.Channels.{same_channel, layout_on}
 use Rattle.isotp_pdu.specs.Layout.{Layout}
 use Rattle.isotp_pdu.specs.Reading.{layout_of}
 use Rattle.isotp_pdu.specs.Layout as layout
-use Rattle.isotp_pdu.specs.declared.PduFault.{PduFault}
 use Rattle.isotp_pdu.specs.declared.Status.TheVariants.{Continue, Wait, Overflow}
 
--- a frame of one of the two directions, with its line and its time
+-- a frame of one of the channels, with its line and its time
 pub record Entry : Type 0 where
   pub line : ℕ
   pub micros : ℕ
-  pub dir : Dir
+  pub channel : Channel
   pub frame : FrameValue
+
+-- a frame on this channel, with its line and its time
+abbrev pub entry_with : ℕ → ℕ → Channel → FrameValue → Entry
+entry_with line micros channel frame = record { line = line; micros = micros; channel = channel; frame = frame }
 
 -- the frame at the position of T is e
 abbrev pub At : List Entry → ℕ → Entry → Type 0
@@ -28,38 +34,42 @@ pub record FirstFrame : Type 0 where
   pub rx_dl : ℕ
   pub bytes : List ℕ
 
--- what a frame is to the reception of a direction
+-- what a frame is to the reception of a channel
 pub data FrameRole : Type 0 where
-  -- a single frame of the direction: its message
+  -- a single frame on the channel: its message
   single : List ℕ → FrameRole
-  -- a first frame of it
+  -- a first frame on it
   first : FirstFrame → FrameRole
-  -- a consecutive frame of it: its sequence number, its CAN_DL, its bytes
+  -- a consecutive frame on it: its sequence number, its CAN_DL, its bytes
   consecutive : ℕ → ℕ → List ℕ → FrameRole
-  -- a flow control frame of the other direction that says continue or wait
+  -- a flow control frame on another channel that says continue or wait
   continue_or_wait : FrameRole
-  -- a flow control frame of the other direction that says overflow
+  -- a flow control frame on another channel that says overflow
   overflow : FrameRole
   -- any other frame
   no_part : FrameRole
 
--- the two are one direction
-abbrev pub same_direction : Dir → Dir → Bool
-same_direction Tester Tester = true
-same_direction Unit Unit = true
-same_direction Tester Unit = false
-same_direction Unit Tester = false
+-- What the frame says on its channel, or why it is dropped.
+unfoldable pub layout_in : Entry → Result Layout Reason
+layout_in e = layout_on e.channel (layout_of e.frame)
 
--- to the direction that sent it (ISO 15765-2, section 9.6)
-abbrev pub own_role : ℕ → ℕ → Result Layout PduFault → FrameRole
+-- the two directions are one
+abbrev pub same_direction : Dir → Dir → Bool
+same_direction dir.Tester dir.Tester = true
+same_direction dir.Unit dir.Unit = true
+same_direction dir.Tester dir.Unit = false
+same_direction dir.Unit dir.Tester = false
+
+-- to the channel that it was sent on (ISO 15765-2, section 9.6)
+abbrev pub own_role : ℕ → ℕ → Result Layout Reason → FrameRole
 own_role line micros (Ok (layout.single message)) = single message
 own_role line micros (Ok (layout.first len rx_dl bytes)) = first (record { line = line; micros = micros; len = len; rx_dl = rx_dl; bytes = bytes })
 own_role line micros (Ok (layout.consecutive sequence_number can_dl bytes)) = consecutive sequence_number can_dl bytes
 own_role line micros (Ok (layout.flow_control status)) = no_part
 own_role line micros (Err fault) = no_part
 
--- to the direction that it was sent to: flow control is all that matters
-abbrev pub other_role : Result Layout PduFault → FrameRole
+-- to any other: flow control is all that matters
+abbrev pub other_role : Result Layout Reason → FrameRole
 other_role (Ok (layout.flow_control Continue)) = continue_or_wait
 other_role (Ok (layout.flow_control Wait)) = continue_or_wait
 other_role (Ok (layout.flow_control Overflow)) = overflow
@@ -68,25 +78,25 @@ other_role (Ok (layout.first len rx_dl bytes)) = no_part
 other_role (Ok (layout.consecutive sequence_number can_dl bytes)) = no_part
 other_role (Err fault) = no_part
 
--- what the frame e is to the reception of d
-unfoldable pub role : Dir → Entry → FrameRole
-role d e = if same_direction d e.dir then own_role e.line e.micros (layout_of e.frame) else other_role (layout_of e.frame)
+-- what the frame e is to the reception of the channel d
+unfoldable pub role : Channel → Entry → FrameRole
+role d e = if same_channel d e.channel then own_role e.line e.micros (layout_in e) else other_role (layout_in e)
 
--- at the position of T stands a single frame of d that holds the message
-pub record SingleFrameAt (T : List Entry) (d : Dir) (position : ℕ) (message : List ℕ) : Type 0 where
+-- at the position of T stands a single frame on d that holds the message
+pub record SingleFrameAt (T : List Entry) (d : Channel) (position : ℕ) (message : List ℕ) : Type 0 where
   pub entry : Entry
   pub stands : At T position entry
   pub kind : role d entry ≡ single message
 
--- at the position of T stands a first frame of d
-pub record FirstFrameAt (T : List Entry) (d : Dir) (position : ℕ) : Type 0 where
+-- at the position of T stands a first frame on d
+pub record FirstFrameAt (T : List Entry) (d : Channel) (position : ℕ) : Type 0 where
   pub entry : Entry
   pub stands : At T position entry
   pub start : FirstFrame
   pub kind : role d entry ≡ first start
 
--- at the position of T stands a consecutive frame of d
-pub record ConsecutiveFrameAt (T : List Entry) (d : Dir) (position : ℕ) : Type 0 where
+-- at the position of T stands a consecutive frame on d
+pub record ConsecutiveFrameAt (T : List Entry) (d : Channel) (position : ℕ) : Type 0 where
   pub entry : Entry
   pub stands : At T position entry
   pub sequence_number : ℕ

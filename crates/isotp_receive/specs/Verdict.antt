@@ -4,7 +4,7 @@ use Rattle.std.specs.Prelude.{Result, Ok, Err}
 use Rattle.direction.specs.Dir.{other_direction, Message}
 use Rattle.direction.specs.declared.Dir.{Dir}
 use Rattle.isotp_pdu.specs.Layout.{Layout}
-use Rattle.isotp_pdu.specs.Reading.{layout_of}
+use Rattle.isotp_receive.specs.Channels.{dir_of, other_channel}
 use Rattle.isotp_pdu.specs.Layout as layout
 use Rattle.isotp_pdu.specs.declared.PduFault.{PduFault}
 use Rattle.isotp_pdu.specs.declared.Status.{Status}
@@ -14,7 +14,7 @@ use Rattle.isotp_receive.specs.declared.event.Cause.TheVariants as cause
 use Rattle.isotp_receive.specs.declared.event.Ended.{Ended}
 use Rattle.isotp_receive.specs.declared.event.Reason.{Reason}
 use Rattle.isotp_receive.specs.declared.event.Reason.TheVariants as reason
-use Rattle.isotp_receive.specs.Trace.{Entry}
+use Rattle.isotp_receive.specs.Trace.{Entry, layout_in}
 use Rattle.isotp_receive.specs.Fit.{Fit, late, wrong_number, wrong_length, one_more, last}
 use Rattle.isotp_receive.specs.StandingReception.{StandingReception, expected, fit_of, stands}
 
@@ -74,17 +74,26 @@ on_flow_control other standing Wait = on_continue_or_wait standing
 on_flow_control other standing Overflow = on_overflow other standing
 
 -- a frame of direction d with this layout or fault, at this time, where own stands for d and others for the other direction
-abbrev pub on_layout : ℕ → Dir → Option StandingReception → Option StandingReception → ℕ → Result Layout PduFault → EventValue
-on_layout limit d own others micros (Err fault) = refused None (reason.Pdu fault)
+abbrev pub on_layout : ℕ → Dir → Option StandingReception → Option StandingReception → ℕ → Result Layout Reason → EventValue
+on_layout limit d own others micros (Err why) = refused None why
 on_layout limit d own others micros (Ok (layout.single whole)) = record { ended = ended_as cause.NewStart d own; verdict = message whole }
 on_layout limit d own others micros (Ok (layout.first len rx_dl bytes)) =
     record { ended = ended_as cause.NewStart d own; verdict = if nat_le len limit then began else dropped (reason.TooLong len) }
 on_layout limit d own others micros (Ok (layout.consecutive sequence_number can_dl bytes)) = on_consecutive d own micros sequence_number can_dl bytes
 on_layout limit d own others micros (Ok (layout.flow_control status)) = on_flow_control (other_direction d) others status
 
+-- what becomes of a frame to all units with this layout or fault, by itself alone: `to_all`, as a verdict
+abbrev pub told_to_all : Result Layout PduFault → VerdictValue
+told_to_all (Ok (layout.single whole)) = message whole
+told_to_all (Ok (layout.first len rx_dl bytes)) = dropped reason.FunctionalNotSingle
+told_to_all (Ok (layout.consecutive sequence_number can_dl bytes)) = dropped reason.FunctionalNotSingle
+told_to_all (Ok (layout.flow_control status)) = dropped reason.FunctionalNotSingle
+told_to_all (Err fault) = dropped (reason.Pdu fault)
+
 -- what the frame e does after the frames T
 unfoldable pub verdict : ℕ → List Entry → Entry → EventValue
-verdict limit T e = on_layout limit e.dir (stands limit e.dir T) (stands limit (other_direction e.dir) T) e.micros (layout_of e.frame)
+verdict limit T e =
+    on_layout limit (dir_of e.channel) (stands limit e.channel T) (stands limit (other_channel e.channel) T) e.micros (layout_in e)
 
 -- the message of a verdict, with its direction
 abbrev pub told_message : Dir → VerdictValue → List Message
@@ -97,7 +106,7 @@ told_message d (dropped reason) = []
 -- the messages that these frames deliver after the frames `past`
 abbrev pub messages_after : ℕ → List Entry → List Entry → List Message
 messages_after limit past [] = []
-messages_after limit past (e ∷ rest) = told_message e.dir (verdict limit past e).verdict ++ messages_after limit (past ++ e ∷ []) rest
+messages_after limit past (e ∷ rest) = told_message (dir_of e.channel) (verdict limit past e).verdict ++ messages_after limit (past ++ e ∷ []) rest
 
 -- the messages that a trace delivers, in order
 abbrev pub messages : ℕ → List Entry → List Message

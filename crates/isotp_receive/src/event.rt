@@ -85,6 +85,8 @@ pub enum Reason {
     NextSequence { expected: u8, found: u8 },
     /// A consecutive frame of another length than the message asks for.
     NextLength,
+    /// A frame to all units that is no single frame.
+    FunctionalNotSingle,
     /// A first frame that announces more bytes than a reception holds.
     TooLong { announced: u32 },
 }

@@ -8,7 +8,7 @@
 ghost use Rattle.std.specs.Prelude.{◌≡◌};
 ghost use Rattle.isotp_receive.specs.declared.TheConstants.{MESSAGE_LIMIT};
 ghost use Rattle.isotp_receive.specs.Laws.{WhatStandsIsOpen, WhatIsOpenStands, WhatStandsIsFixed, OneIsOpen, OneReference, OnTimeIsWithinASecond, KeepsFewerBytes};
-ghost use Rattle.isotp_receive.specs.Laws.{AMessageIsDelivered, MessagesAreDelivered, TheVerdictIsTabled, PlacesAgreeOnBytes, PlacesAgreeOnFit};
+ghost use Rattle.isotp_receive.specs.Laws.{AMessageIsDelivered, MessagesAreDelivered, TheVerdictIsTabled, FunctionalFramesStandAlone, PlacesAgreeOnBytes, PlacesAgreeOnFit};
 ghost use Rattle.isotp_receive.specs.MessageLaws.{MessagesGoOn, MessagesAreFew, MessagesFit, MessagesHoldBytes};
 ghost use Rattle.isotp_receive.specs.MessageLaws.{EventsGoOn, EventsAreAsMany, FirstFrameIsRead, TooLongIsAnnounced, KeptIsWithin, CleanIsCounted};
 ghost use Rattle.isotp_receive.specs.RecordingLaws.{RecordingDelivers, RecordingDeliversBehind, RecordingDeliversAtLastPosition, RecordingDeliversByFrames, CleanTraceIsARecording};
@@ -23,7 +23,7 @@ pub fn what_stands_is_open()
     ensures fixed { WhatStandsIsFixed }
 {}
 
-/// At most one reception of a direction is open at a position.
+/// At most one reception of a channel is open at a position.
 pub fn one_is_open()
     ensures { OneIsOpen }
 {}
@@ -57,6 +57,11 @@ pub fn messages_are_delivered()
 /// The table of verdicts has one for each frame, and that is the verdict.
 pub fn the_verdict_is_tabled()
     ensures { TheVerdictIsTabled }
+{}
+
+/// A frame to all units is told by its layout alone: what stands is what stood, and nothing stands for its channel.
+pub fn functional_frames_stand_alone()
+    ensures { FunctionalFramesStandAlone }
 {}
 
 /// What the places say of bytes and lengths is what the reception counts and tests.
@@ -105,7 +110,7 @@ pub fn events_go_on()
     ensures count { EventsAreAsMany }
 {}
 
-/// What is a first frame to the reception of a direction was sent by that direction, and has that layout.
+/// What is a first frame to the reception of a channel was sent on that channel, and has that layout.
 pub fn first_frame_is_read()
     ensures { FirstFrameIsRead }
 {}

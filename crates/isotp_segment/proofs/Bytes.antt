@@ -1,5 +1,6 @@
 -- The bytes of a canonical frame, each by its place.
-use Rattle.std.proofs.Common.{◌≡◌, ℕ, ◌+◌, ◌-◌, ◌<◌, List, ◌++◌, length, take, map, get_or, sym, ◌∙◌, ap, arith, append_assoc, length-append, length-take, ext_get_or, get_or-take, inl, inr}
+use Rattle.std.proofs.Common.{◌≡◌, ℕ, ◌+◌, ◌-◌, ◌<◌, List, ◌++◌, length, take, map, get_or, sym, ◌∙◌, ap, arith, append_assoc}
+use Rattle.std.proofs.Common.{length-append, length-take, ext_get_or, get_or-take, inl, inr}
 use Rattle.std.specs.Prelude.{replicate, slice_index, slice_index_or, nat_lt}
 use Rattle.std.specs.List.{range_with_len}
 use Rattle.std.proofs.Math.Seq.{get_or-append_right}

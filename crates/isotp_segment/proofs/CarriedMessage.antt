@@ -1,5 +1,6 @@
 -- The canonical frames of a message carry it, at the positions that it is given.
-use Rattle.std.proofs.Common.{◌≡◌, ℕ, zero, suc, ◌+◌, ◌-◌, ◌*◌, ◌%◌, ◌<◌, ◌≤◌, ◌^◌, List, [], length, take, drop, nat_le, refl, sym, ◌∙◌, ap, arith, cond, inl, inr, subst, length-take-le}
+use Rattle.std.proofs.Common.{◌≡◌, ℕ, zero, suc, ◌+◌, ◌-◌, ◌*◌, ◌%◌, ◌<◌, ◌≤◌, ◌^◌, List, [], length, take, drop, nat_le, refl}
+use Rattle.std.proofs.Common.{sym, ◌∙◌, ap, arith, cond, inl, inr, subst, length-take-le}
 use Rattle.std.specs.Prelude.{slice_index, ◌⊎◌}
 use Rattle.std.specs.List.{range_with_len}
 use Rattle.std.proofs.lemmas.Bool.{leb-true, leb-false, cases_lt, cases_Bool}
@@ -8,19 +9,20 @@ use Rattle.std.proofs.lemmas.List.FromFn.{length-range_with_len}
 use Rattle.direction.specs.Dir.{other_direction}
 use Rattle.direction.specs.declared.Dir.{Dir}
 use Rattle.can_log.specs.declared.frame.Id.{Id}
-use Rattle.isotp_pdu.specs.Reading.{layout_of}
-use Rattle.isotp_receive.specs.Trace.{Entry, At, FirstFrame, first, role}
+use Rattle.isotp_receive.specs.Channels.{channel_of}
+use Rattle.isotp_receive.specs.Trace.{Entry, At, FirstFrame, first, role, layout_in}
 use Rattle.isotp_receive.specs.OnTime.{RestartsTimer}
 use Rattle.isotp_receive.specs.Recording.{IsConsecutiveFrame, EachNumbered, IsSegmented, unsegmented, segmented, IsTransfer, IsIn, IsIdle}
 use Rattle.isotp_receive.specs.Places as places
 use Rattle.isotp_receive.proofs.Promises.{places_agree_on_bytes}
-use Rattle.isotp_segment.specs.CanonicalFrames.{consecutive_count, padded, first_control, consecutive_control, continue_control, room_in_first, place_of, frame_count}
+use Rattle.isotp_segment.specs.CanonicalFrames.{consecutive_count, padded, first_control, consecutive_control, continue_control}
+use Rattle.isotp_segment.specs.CanonicalFrames.{room_in_first, place_of, frame_count}
 use Rattle.isotp_segment.proofs.Ranges.{rising-range, in-range}
 use Rattle.isotp_segment.proofs.Bytes.{padded-holds}
 use Rattle.isotp_segment.proofs.Layouts.{layout-continue}
-use Rattle.isotp_segment.proofs.Counts.{total-short, total-long, room_in_first-few, count-least}
+use Rattle.isotp_segment.proofs.Counts.{total-short, total-long, room_in_first-few, consecutive_count_is_least}
 use Rattle.isotp_segment.proofs.Positions.{positions_of}
-use Rattle.isotp_segment.proofs.TimedFrames.{entry, StandFrom}
+use Rattle.isotp_segment.proofs.TimedFrames.{entry, StandFrom, says}
 use Rattle.isotp_segment.proofs.MessageFrames.{at-single, at-first, at-continue, at-consecutive, single-role, first-role, consecutive-role, continue-role}
 use Rattle.isotp_segment.proofs.OpenReceptions.{same-entry}
 
@@ -52,20 +54,20 @@ module _ (identifier : Dir → Id) (line micros : ℕ) (T : List Entry) (d : Dir
   start : FirstFrame
   start = record { line = line + begun; micros = micros + begun * 1000; len = len; rx_dl = 8; bytes = take in_first message }
 
-  starts : role d (entry identifier line micros begun (d, padded (first_control len) message)) ≡ first start
+  starts : role (channel_of d) (entry identifier line micros begun (d, padded (first_control len) message)) ≡ first start
   unfolding start
   starts = first-role identifier line micros d begun message low bits
 
   held : places.bytes_in_first (padded (first_control len) message) ≡ in_first
   unfolding start
   held =
-      let at_none = places_agree_on_bytes d _ start 0 starts in
+      let at_none = places_agree_on_bytes (channel_of d) _ start 0 starts in
       let few = room_in_first-few len in
       omega (arith, length-take-le in_first message (omega arith))
 
   -- the frame before consecutive frame `number` is its reference
   reference-of : (number : ℕ) → 1 ≤ number → 1 + number < frame_count len
-      → (x : Entry) × At T (begun + number) x × RestartsTimer (role d x) × (x.micros ≡ micros + (begun + number) * 1000)
+      → (x : Entry) × At T (begun + number) x × RestartsTimer (role (channel_of d) x) × (x.micros ≡ micros + (begun + number) * 1000)
   reference-of zero one below = absurd (omega arith)
   reference-of (suc zero) one below = (
     _,
@@ -80,7 +82,7 @@ module _ (identifier : Dir → Id) (line micros : ℕ) (T : List Entry) (d : Dir
       (at-consecutive identifier line micros T d message begun stand (suc number) (omega arith) (omega arith) (omega arith)) in
       (_, at, rw (consecutive-role identifier line micros d (begun + suc (suc number)) (suc number) bytes) tt, refl)
 
-  part : (number : ℕ) → 1 ≤ number → number ≤ count → IsConsecutiveFrame T d message begun start in_first count number (begun + (1 + number))
+  part : (number : ℕ) → 1 ≤ number → number ≤ count → IsConsecutiveFrame T (channel_of d) message begun start in_first count number (begun + (1 + number))
   unfolding start
   part number one most =
       let all = total-long len (omega arith) in
@@ -124,14 +126,14 @@ module _ (identifier : Dir → Id) (line micros : ℕ) (T : List Entry) (d : Dir
       }
 
   parts-from : (many number position : ℕ) → 1 ≤ number → number + many ≡ count + 1 → position ≡ begun + (1 + number)
-      → EachNumbered (IsConsecutiveFrame T d message begun start in_first count) number (range_with_len position many)
+      → EachNumbered (IsConsecutiveFrame T (channel_of d) message begun start in_first count) number (range_with_len position many)
   parts-from zero number position one sum place = tt
   parts-from (suc many) number position one sum place = (
-    subst (IsConsecutiveFrame T d message begun start in_first count number) (sym place) (part number one (omega arith)),
+    subst (IsConsecutiveFrame T (channel_of d) message begun start in_first count number) (sym place) (part number one (omega arith)),
     parts-from many (number + 1) (position + 1) (omega arith) (omega arith) (omega arith),
   )
 
-  is-segmented : IsSegmented T d message begun (range_with_len (begun + 2) count)
+  is-segmented : IsSegmented T (channel_of d) message begun (range_with_len (begun + 2) count)
   unfolding start
   is-segmented =
       let all = total-long len (omega arith) in
@@ -145,7 +147,7 @@ module _ (identifier : Dir → Id) (line micros : ℕ) (T : List Entry) (d : Dir
           kind = starts;
         };
         announces = refl;
-        least = rw (held, size) (count-least len (omega arith));
+        least = rw (held, size) (consecutive_count_is_least len (omega arith));
         consecutive_frames = rw (held, size) (parts-from count 1 (begun + 2) (omega arith) (omega arith) (omega arith));
         holds = λ place inside. (let held_there = held in first-holds message place _ low (omega arith) (ap (λ j. 8 - j + place) held_there));
       }
@@ -153,7 +155,7 @@ module _ (identifier : Dir → Id) (line micros : ℕ) (T : List Entry) (d : Dir
 -- any message
 module _ (identifier : Dir → Id) (line micros limit : ℕ) (bits : limit < 2 ^ 32) (T : List Entry) (d : Dir) (message : List ℕ) (begun : ℕ)
     (some : 1 ≤ length message) (fits : length message ≤ limit) (stand : StandFrom identifier line micros T d message begun) where
-  pub transfer-of : IsTransfer limit T (record { dir = d; message = message; positions = positions_of message begun })
+  pub transfer-of : IsTransfer limit T (record { channel = channel_of d; message = message; positions = positions_of message begun })
   transfer-of = elim (cases_Bool (nat_le (length message) 7)) [
     | inl t ↦
         (let short = leb-true (length message) 7 t in
@@ -178,12 +180,12 @@ module _ (identifier : Dir → Id) (line micros limit : ℕ) (bits : limit < 2 ^
         })
   ]
 
-  idle-continue : (p : ℕ) → IsIdle (layout_of (entry identifier line micros p (other_direction d, padded continue_control [])).frame)
-  idle-continue p = rw (layout-continue (identifier (other_direction d))) tt
+  idle-continue : (p : ℕ) → IsIdle (layout_in (entry identifier line micros p (other_direction d, padded continue_control [])))
+  idle-continue p = rw (says identifier line micros p (other_direction d) _ _ (layout-continue (identifier (other_direction d)))) tt
 
   -- each frame of a message is at one of its positions, or is the continue frame
   pub at-own : (p : ℕ) (e : Entry) → begun ≤ p → p < begun + frame_count (length message) → At T p e
-      → IsIn p (positions_of message begun) ⊎ IsIdle (layout_of e.frame)
+      → IsIn p (positions_of message begun) ⊎ IsIdle (layout_in e)
   at-own p e above below there = elim (cases_Bool (nat_le (length message) 7)) [
     | inl t ↦ (let one = total-short (length message) (leb-true (length message) 7 t) in inl (rw t (inl (omega arith))))
     | inr t ↦

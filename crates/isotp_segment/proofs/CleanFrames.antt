@@ -6,6 +6,8 @@ use Rattle.std.proofs.lemmas.List.{append-nil}
 use Rattle.std.proofs.lemmas.Option.{slice_get_within}
 use Rattle.direction.specs.Dir.{Message}
 use Rattle.direction.specs.declared.Dir.{Dir}
+use Rattle.isotp_receive.specs.declared.channel.Channel.{Channel}
+use Rattle.isotp_receive.specs.Channels.{channel_of}
 use Rattle.can_log.specs.declared.frame.Id.{Id}
 use Rattle.isotp_receive.specs.Trace.{Entry, At}
 use Rattle.isotp_receive.specs.Verdict.{verdict}
@@ -29,7 +31,7 @@ module _ (identifier : Dir → Id) (line micros limit : ℕ) (bits : limit < 2 ^
     timed_frames : T ≡ timed identifier line micros frames
     last : AreLastFrom limit frames M begun
     given : AreGivenTheirFrames limit T (transfers_from begun M)
-    closed : (heard : Dir) → IsClosedAt limit T heard begun
+    closed : (heard : Channel) → IsClosedAt limit T heard begun
 
   first-sent : (x : Message) (M : List Message) (begun : ℕ) (T : List Entry) → AreSent (x ∷ M) begun T
       → IsSent identifier line micros limit T x.0 x.1 begun
@@ -68,7 +70,7 @@ module _ (identifier : Dir → Id) (line micros limit : ℕ) (bits : limit < 2 ^
         | inr later ↦ all-clean M behind past rest e there later (others-sent x M begun (past ++ rest) sent)
       ]
 
-  all-closed : (M : List Message) (begun : ℕ) (T : List Entry) → AreSent M begun T → (heard : Dir) → IsClosedAt limit T heard (length T)
+  all-closed : (M : List Message) (begun : ℕ) (T : List Entry) → AreSent M begun T → (heard : Channel) → IsClosedAt limit T heard (length T)
   all-closed [] begun T sent heard = subst (IsClosedAt limit T heard) (sent-to-end begun T sent) (sent.closed heard)
   all-closed (x ∷ M) begun T sent heard = all-closed M (begun + frame_count (length x.1)) T (others-sent x M begun T sent) heard
 
@@ -93,6 +95,6 @@ frames-clean identifier line micros limit bits M sizes =
       closed = λ heard from number reception. absurd (omega (arith, reception.later));
     } in record {
       each = each-clean identifier line micros limit bits frames M [] T sent;
-      finished = λ d. closed-stands limit T [] d (subst (λ l. IsClosedAt limit l d (length T)) (sym (append-nil T))
-          (all-closed identifier line micros limit bits frames M 0 T sent d));
+      finished = λ d. closed-stands limit T [] (channel_of d) (subst (λ l. IsClosedAt limit l (channel_of d) (length T)) (sym (append-nil T))
+          (all-closed identifier line micros limit bits frames M 0 T sent (channel_of d)));
     }

@@ -3,7 +3,8 @@ use Rattle.std.proofs.Common.{◌≡◌, ℕ, ◌+◌, ◌-◌, ◌%◌, ◌<◌
 use Rattle.std.proofs.lemmas.Bool.{cases_lt}
 use Rattle.direction.specs.Dir.{other_direction}
 use Rattle.direction.specs.declared.Dir.{Dir}
-use Rattle.direction.specs.declared.Dir.TheVariants.{Tester, Unit}
+use Rattle.isotp_receive.specs.Channels.{channel_of}
+use Rattle.isotp_receive.proofs.Promises.{answered_on}
 use Rattle.can_log.specs.declared.frame.Id.{Id}
 use Rattle.isotp_receive.specs.Trace.{Entry, At}
 use Rattle.isotp_receive.specs.Places.{consecutive_frames_in, between}
@@ -14,15 +15,11 @@ use Rattle.isotp_receive.specs.CleanTrace.{IsCleanEvent}
 use Rattle.isotp_segment.specs.CanonicalFrames.{padded, consecutive_control, place_of, frame_count}
 use Rattle.isotp_segment.proofs.Counts.{total-short, total-long}
 use Rattle.isotp_segment.proofs.Layouts.{layout-single, layout-first, layout-consecutive, layout-continue}
-use Rattle.isotp_segment.proofs.TimedFrames.{entry}
+use Rattle.isotp_segment.proofs.TimedFrames.{entry, says}
 use Rattle.isotp_segment.proofs.MessageFrames.{at-single, at-first, at-continue, at-consecutive, consecutive-role}
 use Rattle.isotp_segment.proofs.OpenReceptions.{IsClosedAt, same-entry, open-since, next-since}
 use Rattle.isotp_segment.proofs.CleanVerdicts.{continue-clean, consecutive-clean, single-clean, first-clean}
 use Rattle.isotp_segment.proofs.SentMessage.{IsSent, IsCompleted, is-completed}
-
-other-of-other : (d : Dir) → other_direction (other_direction d) ≡ d
-other-of-other Tester = refl
-other-of-other Unit = refl
 
 -- a frame of the message, after `past`
 module _ (identifier : Dir → Id) (line micros limit : ℕ) (bits : limit < 2 ^ 32) (past rest : List Entry) (e : Entry)
@@ -41,40 +38,40 @@ module _ (identifier : Dir → Id) (line micros limit : ℕ) (bits : limit < 2 ^
       let at_here = subst (λ q. At T q (entry identifier line micros q frame)) is at in
       subst (λ x. IsCleanEvent (verdict limit past x)) (same-entry T here _ e at_here there) clean
 
-  closed-here : begun ≡ here → IsClosedAt limit T d here
-  closed-here is = subst (IsClosedAt limit T d) is (sent.closed d)
+  closed-here : begun ≡ here → IsClosedAt limit T (channel_of d) here
+  closed-here is = subst (IsClosedAt limit T (channel_of d)) is (sent.closed (channel_of d))
 
   alone-clean : length message ≤ 7 → begun ≡ here → IsCleanEvent (verdict limit past e)
   alone-clean short is =
       let one = total-short (length message) short in
       clean-as _ begun (at-single identifier line micros T d message begun sent.stand short (omega arith)) is
-      (single-clean limit past rest _ (closed-here is) message (layout-single (identifier d) message sent.some short))
+      (single-clean limit past rest _ (closed-here is) message (says identifier line micros here d _ _ (layout-single (identifier d) message sent.some short)))
 
   begin-clean : 7 < length message → begun ≡ here → IsCleanEvent (verdict limit past e)
   begin-clean long is =
       let all = total-long (length message) long in
       clean-as _ begun (at-first identifier line micros T d message begun sent.stand long (omega arith)) is
-      (first-clean limit past rest _ (closed-here is) _ _ _ (layout-first (identifier d) message (omega arith) (omega (arith, sent.fits))) sent.fits)
+      (first-clean limit past rest _ (closed-here is) _ _ _
+      (says identifier line micros here d _ _ (layout-first (identifier d) message (omega arith) (omega (arith, sent.fits)))) sent.fits)
 
   -- after the first one
-  module _ (long : 7 < length message) (its : IsCompleted limit T d message begun) (later : begun < here)
-      (below : here < begun + frame_count (length message)) where
-    abbrev completed : Completes limit T its.last d message
+  module _ (long : 7 < length message) (its : IsCompleted limit T (channel_of d) message begun) (later : begun < here) (below : here < begun + frame_count (length message)) where
+    abbrev completed : Completes limit T its.last (channel_of d) message
     completed = its.completed
 
     abbrev number : ℕ
-    number = consecutive_frames_in d (between T completed.fit.begun here)
+    number = consecutive_frames_in (channel_of d) (between T completed.fit.begun here)
 
-    reception : IsOpenAt limit T d completed.fit.begun number here
+    reception : IsOpenAt limit T (channel_of d) completed.fit.begun number here
     reception =
-        open-since limit T d completed.fit.begun completed.fit.number its.last completed.fit.is_open here
+        open-since limit T (channel_of d) completed.fit.begun completed.fit.number its.last completed.fit.is_open here
         (omega (arith, its.from)) (omega (arith, its.ends))
 
     go-on-clean : begun + 1 ≡ here → IsCleanEvent (verdict limit past e)
     go-on-clean is =
         clean-as _ (begun + 1) (at-continue identifier line micros T d message begun sent.stand long (omega arith)) is
-        (continue-clean limit past rest d completed.fit.begun number reception _ (other-of-other d)
-        (layout-continue (identifier (other_direction d))))
+        (continue-clean limit past rest (channel_of d) completed.fit.begun number reception _ (answered_on d)
+        (says identifier line micros here (other_direction d) _ _ (layout-continue (identifier (other_direction d)))))
 
     next-clean : (k : ℕ) → 1 ≤ k → begun + (1 + k) ≡ here → IsCleanEvent (verdict limit past e)
     unfolding reception open-since
@@ -82,15 +79,15 @@ module _ (identifier : Dir → Id) (line micros limit : ℕ) (bits : limit < 2 ^
         let frame : Dir × List ℕ = (d, padded (consecutive_control k) (drop (place_of (length message) k) message)) in
         let at = at-consecutive identifier line micros T d message begun sent.stand k long one (omega arith) in
         let at_here = subst (λ q. At T q (entry identifier line micros q frame)) is at in
-        let next = next-since limit T d its.last message completed here (entry identifier line micros here frame) (k % 16) 8 _
+        let next = next-since limit T (channel_of d) its.last message completed here (entry identifier line micros here frame) (k % 16) 8 _
         (omega (arith, its.from)) (omega (arith, its.ends)) at_here (consecutive-role identifier line micros d here k _) in
         clean-as _ (begun + (1 + k)) at is
-        (consecutive-clean limit past rest d completed.fit.begun number reception _ (k % 16) 8 _ refl
-        (layout-consecutive (identifier d) k _) next.0 next.1)
+        (consecutive-clean limit past rest (channel_of d) completed.fit.begun number reception _ (k % 16) 8 _ refl
+        (says identifier line micros here d _ _ (layout-consecutive (identifier d) k _)) next.0 next.1)
 
   further-clean : 7 < length message → begun < here → here < begun + frame_count (length message) → IsCleanEvent (verdict limit past e)
   further-clean long later below =
-      let its = is-completed limit T d message begun long sent.given in
+      let its = is-completed limit T (channel_of d) message begun long sent.given in
       elim (cases_lt (begun + 1) here) [
         | inr most ↦ go-on-clean long its later below (omega arith)
         | inl behind ↦ next-clean long its later below (here - (begun + 1)) (omega arith) (omega arith)

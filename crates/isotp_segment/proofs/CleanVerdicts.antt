@@ -2,12 +2,11 @@
 -- `isotp_receive`.
 use Rattle.std.proofs.Common.{◌≡◌, ℕ, ◌+◌, ◌%◌, ◌≤◌, ◌==◌, true, List, ◌++◌, length, nat_le, Option, Some, None, Ok, refl, sym, ◌∙◌, ap, arith, subst}
 use Rattle.std.proofs.lemmas.Bool.{le-leb, eq-eqb, cond_both}
-use Rattle.direction.specs.Dir.{other_direction}
-use Rattle.direction.specs.declared.Dir.{Dir}
+use Rattle.isotp_receive.specs.Channels.{dir_of, other_channel}
+use Rattle.isotp_receive.specs.declared.channel.Channel.{Channel}
 use Rattle.isotp_pdu.specs.declared.Status.TheVariants.{Continue}
 use Rattle.isotp_pdu.specs.Layout as layout
-use Rattle.isotp_pdu.specs.Reading.{layout_of}
-use Rattle.isotp_receive.specs.Trace.{Entry, At}
+use Rattle.isotp_receive.specs.Trace.{Entry, At, layout_in}
 use Rattle.isotp_receive.specs.Places.{bytes_in_first, bytes_before, FitsAs}
 use Rattle.isotp_receive.specs.OnTime.{n_cr, IsReference, IsOnTime}
 use Rattle.isotp_receive.specs.Fit.{one_more, last}
@@ -19,7 +18,7 @@ use Rattle.isotp_receive.proofs.Promises.{what_stands_is_open, what_is_open_stan
 use Rattle.isotp_segment.proofs.OpenReceptions.{IsClosedAt, same-entry}
 
 -- Where a reception is open after T, whatever follows.
-module _ (limit : ℕ) (T rest : List Entry) (d : Dir) (begun number : ℕ)
+module _ (limit : ℕ) (T rest : List Entry) (d : Channel) (begun number : ℕ)
     (reception : IsOpenAt limit (T ++ rest) d begun number (length T)) where
   abbrev in_first : ℕ
   in_first = bytes_in_first reception.begins.entry.frame.bytes
@@ -65,8 +64,8 @@ module _ (limit : ℕ) (T rest : List Entry) (d : Dir) (begun number : ℕ)
       )
 
   -- the next consecutive frame of it is stored, or completes its message
-  pub consecutive-clean : (e : Entry) (sequence_number can_dl : ℕ) (bytes : List ℕ) → e.dir ≡ d
-      → layout_of e.frame ≡ Ok (layout.consecutive sequence_number can_dl bytes)
+  pub consecutive-clean : (e : Entry) (sequence_number can_dl : ℕ) (bytes : List ℕ) → e.channel ≡ d
+      → layout_in e ≡ Ok (layout.consecutive sequence_number can_dl bytes)
       → FitsAs in_first reception.begins.start.rx_dl reception.begins.start.len reception.count (number + 1) sequence_number can_dl
       → IsOnTime (T ++ rest) d begun (length T) e → IsCleanEvent (verdict limit T e)
   unfolding verdict
@@ -79,13 +78,13 @@ module _ (limit : ℕ) (T rest : List Entry) (d : Dir) (begun number : ℕ)
       let time : nat_le e.micros (standing.reference + n_cr) ≡ true = le-leb _ _ (k.on_time e in_time) in
       let next : (sequence_number == (standing.taken + 1) % 16) ≡ true = eq-eqb _ _ (fit.0 ∙ ap (λ n. (n + 1) % 16) (sym k.taken)) in
       let size : fits_length standing.len standing.rx_dl (length standing.bytes) can_dl ≡ true = rw (k.len, k.rx_dl, k.size) fit.1 in
-      rw (own, is, k.standing_there, time, next, size)
-      (cond_both (stays_incomplete standing) one_more last (λ fit. IsCleanEvent (on_fit d standing fit sequence_number bytes))
+      rw (is, own, k.standing_there, time, next, size)
+      (cond_both (stays_incomplete standing) one_more last (λ fit. IsCleanEvent (on_fit (dir_of d) standing fit sequence_number bytes))
       (λ _. record { goes_on = refl; kept = tt })
       (λ _. record { goes_on = refl; kept = tt }))
 
   -- a continue frame of the other side is expected
-  pub continue-clean : (e : Entry) → other_direction e.dir ≡ d → layout_of e.frame ≡ Ok (layout.flow_control Continue)
+  pub continue-clean : (e : Entry) → other_channel e.channel ≡ d → layout_in e ≡ Ok (layout.flow_control Continue)
       → IsCleanEvent (verdict limit T e)
   unfolding verdict
   continue-clean e other is =
@@ -93,7 +92,7 @@ module _ (limit : ℕ) (T rest : List Entry) (d : Dir) (begun number : ℕ)
       rw (is, other, k.standing_there) (record { goes_on = refl; kept = tt })
 
 -- where none of the direction is open, none stands
-pub closed-stands : (limit : ℕ) (T rest : List Entry) (d : Dir) → IsClosedAt limit (T ++ rest) d (length T) → stands limit d T ≡ None
+pub closed-stands : (limit : ℕ) (T rest : List Entry) (d : Channel) → IsClosedAt limit (T ++ rest) d (length T) → stands limit d T ≡ None
 closed-stands limit T rest d closed = by_case (stands limit d T) refl where
   by_case : (known : Option StandingReception) → stands limit d T ≡ known → stands limit d T ≡ None
   by_case None is = is
@@ -101,17 +100,17 @@ closed-stands limit T rest d closed = by_case (stands limit d T) refl where
       absurd (let there = what_stands_is_open limit T rest d standing is in closed there.begun there.number there.is_open)
 
 -- Where none of the direction is open, a single frame is a message, and a first frame of at most the limit begins one.
-module _ (limit : ℕ) (T rest : List Entry) (e : Entry) (closed : IsClosedAt limit (T ++ rest) e.dir (length T)) where
-  pub single-clean : (message : List ℕ) → layout_of e.frame ≡ Ok (layout.single message) → IsCleanEvent (verdict limit T e)
+module _ (limit : ℕ) (T rest : List Entry) (e : Entry) (closed : IsClosedAt limit (T ++ rest) e.channel (length T)) where
+  pub single-clean : (message : List ℕ) → layout_in e ≡ Ok (layout.single message) → IsCleanEvent (verdict limit T e)
   unfolding verdict
   single-clean message is =
-      let none = closed-stands limit T rest e.dir closed in
+      let none = closed-stands limit T rest e.channel closed in
       rw (is, none) (record { goes_on = refl; kept = tt })
 
-  pub first-clean : (len rx_dl : ℕ) (bytes : List ℕ) → layout_of e.frame ≡ Ok (layout.first len rx_dl bytes) → len ≤ limit
+  pub first-clean : (len rx_dl : ℕ) (bytes : List ℕ) → layout_in e ≡ Ok (layout.first len rx_dl bytes) → len ≤ limit
       → IsCleanEvent (verdict limit T e)
   unfolding verdict
   first-clean len rx_dl bytes is fits =
-      let none = closed-stands limit T rest e.dir closed in
+      let none = closed-stands limit T rest e.channel closed in
       let within : nat_le len limit ≡ true = le-leb _ _ fits in
       rw (is, none, within) (record { goes_on = refl; kept = tt })

@@ -3,6 +3,8 @@ use Rattle.std.proofs.Common.{◌≡◌, ℕ, ◌+◌, ◌-◌, ◌<◌, ◌≤�
 use Rattle.std.proofs.lemmas.Bool.{cases_lt}
 use Rattle.direction.specs.Dir.{other_direction}
 use Rattle.direction.specs.declared.Dir.{Dir}
+use Rattle.isotp_receive.specs.declared.channel.Channel.{Channel}
+use Rattle.isotp_receive.specs.Channels.{channel_of}
 use Rattle.can_log.specs.declared.frame.Id.{Id}
 use Rattle.isotp_pdu.specs.Reading.{layout_of}
 use Rattle.isotp_receive.specs.Trace.{Entry, At, role}
@@ -22,9 +24,9 @@ module _ (identifier : Dir → Id) (line micros limit : ℕ) (T : List Entry) (d
 
   -- A reception that is open there began before the frames: of these the first one begins the reception that the last
   -- one completes, and no other begins any.
-  module _ (heard : Dir) (from number : ℕ) (reception : IsOpenAt limit T heard from number behind) where
+  module _ (heard : Channel) (from number : ℕ) (reception : IsOpenAt limit T heard from number behind) where
     begins-at : (p : ℕ) (frame : Dir × List ℕ) → At T p (entry identifier line micros p frame) → p ≡ from
-        → (heard ≡ frame.0) × IsFirst (layout_of (classic (identifier frame.0) frame.1))
+        → (heard ≡ channel_of frame.0) × IsFirst (layout_of (classic (identifier frame.0) frame.1))
     begins-at p frame at is =
         let there = subst (λ q. At T q (entry identifier line micros q frame)) is at in
         begins-reception heard (entry identifier line micros from frame) reception.begins.start
@@ -41,9 +43,9 @@ module _ (identifier : Dir → Id) (line micros limit : ℕ) (T : List Entry) (d
       not-first is =
           let all = total-long (length message) long in
           let begins = begins-at begun _ (at-first identifier line micros T d message begun sent.stand long (omega arith)) is in
-          let its = is-completed limit T d message begun long sent.given in
-          closed-behind limit T d its.last message its.completed number behind (omega (arith, its.ends))
-          (subst (λ p. IsOpenAt limit T d p number behind) (sym is ∙ sym its.from)
+          let its = is-completed limit T (channel_of d) message begun long sent.given in
+          closed-behind limit T (channel_of d) its.last message its.completed number behind (omega (arith, its.ends))
+          (subst (λ p. IsOpenAt limit T (channel_of d) p number behind) (sym is ∙ sym its.from)
           (subst (λ h. IsOpenAt limit T h from number behind) begins.0 reception))
 
       not-continue : begun + 1 ≡ from → ⊥
@@ -73,7 +75,7 @@ module _ (identifier : Dir → Id) (line micros limit : ℕ) (T : List Entry) (d
       | inr short ↦ (let one = total-short (length message) short in not-alone short (omega (arith, reception.later)))
     ]
 
-  pub closed-behind-message : (heard : Dir) → IsClosedAt limit T heard behind
+  pub closed-behind-message : (heard : Channel) → IsClosedAt limit T heard behind
   closed-behind-message heard from number reception = elim (cases_lt from begun) [
     | inl earlier ↦ sent.closed heard from _ (open-since limit T heard from number behind reception begun earlier (omega arith))
     | inr least ↦ not-of-these heard from number reception least

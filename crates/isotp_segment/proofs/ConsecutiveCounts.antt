@@ -2,20 +2,20 @@
 use Rattle.std.proofs.Common.{◌≡◌, ℕ, zero, suc, ◌+◌, ◌-◌, ◌<◌, ◌≤◌, List, [], ◌∷◌, take, drop, Some, sym, ◌∙◌, arith, inl, inr}
 use Rattle.std.specs.Prelude.{slice_get}
 use Rattle.std.proofs.lemmas.Bool.{cases_lt}
-use Rattle.direction.specs.declared.Dir.{Dir}
+use Rattle.isotp_receive.specs.declared.channel.Channel.{Channel}
 use Rattle.isotp_receive.specs.Trace.{Entry, At, role}
 use Rattle.isotp_receive.specs.Places.{IsConsecutiveCount, consecutive_by, consecutive_frames_in, between}
 use Rattle.isotp_receive.proofs.Promises.{get-drop}
 
 -- the more frames, the more consecutive frames are among them
-pub counted-more : (d : Dir) (few many : ℕ) (es : List Entry) → few ≤ many
+pub counted-more : (d : Channel) (few many : ℕ) (es : List Entry) → few ≤ many
     → consecutive_frames_in d (take few es) ≤ consecutive_frames_in d (take many es)
 counted-more d zero many es most = omega arith
 counted-more d (suc few) zero es most = absurd (omega arith)
 counted-more d (suc few) (suc many) [] most = omega arith
 counted-more d (suc few) (suc many) (e ∷ es) most = omega (arith, counted-more d few many es (omega arith))
 
-counted-next : (d : Dir) (few many : ℕ) (es : List Entry) (e : Entry) → slice_get es few ≡ Some e → few < many
+counted-next : (d : Channel) (few many : ℕ) (es : List Entry) (e : Entry) → slice_get es few ≡ Some e → few < many
     → consecutive_frames_in d (take few es) + consecutive_by (role d e) ≤ consecutive_frames_in d (take many es)
 counted-next d few many [] e at less = absurd (cc)
 counted-next d zero zero (x ∷ es) e at less = absurd (omega arith)
@@ -24,7 +24,7 @@ counted-next d (suc few) zero (x ∷ es) e at less = absurd (omega arith)
 counted-next d (suc few) (suc many) (x ∷ es) e at less = omega (arith, counted-next d few many es e at (omega arith))
 
 -- a frame strictly between two positions counts
-pub counted-between : (d : Dir) (T : List Entry) (begun place position : ℕ) (e : Entry) → begun < place → place < position → At T place e
+pub counted-between : (d : Channel) (T : List Entry) (begun place position : ℕ) (e : Entry) → begun < place → place < position → At T place e
     → consecutive_frames_in d (between T begun place) + consecutive_by (role d e) ≤ consecutive_frames_in d (between T begun position)
 counted-between d T begun place position e later below at =
     counted-next d (place - (begun + 1)) (position - (begun + 1)) (drop (begun + 1) T) e

@@ -7,7 +7,8 @@ use Rattle.can_log.specs.Frame.{AreBytes}
 use Rattle.direction.specs.declared.Dir.{Dir}
 use Rattle.isotp_pdu.specs.Layout.{single}
 use Rattle.isotp_pdu.proofs.Promises.{layout_is_read}
-use Rattle.isotp_segment.specs.CanonicalFrames.{padded, single_control, first_control, consecutive_control, continue_control, place_of, frame_count, canonical_frame, canonical_frames}
+use Rattle.isotp_segment.specs.CanonicalFrames.{padded, single_control, first_control, consecutive_control, continue_control}
+use Rattle.isotp_segment.specs.CanonicalFrames.{place_of, frame_count, canonical_frame, canonical_frames}
 use Rattle.isotp_segment.specs.Laws.{HasEightBytes, CanonicalFramesHaveEightBytes, ShortMessageIsOneFrame}
 use Rattle.isotp_segment.proofs.Bytes.{byte_at, padded-by-place, length-padded}
 use Rattle.isotp_segment.proofs.Frames.{frame-single, canonical_frames-short}

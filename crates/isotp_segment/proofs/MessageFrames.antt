@@ -4,8 +4,10 @@ use Rattle.std.proofs.Common.{◌≡◌, ℕ, ◌+◌, ◌%◌, ◌*◌, ◌<◌
 use Rattle.direction.specs.Dir.{other_direction}
 use Rattle.direction.specs.declared.Dir.{Dir}
 use Rattle.can_log.specs.declared.frame.Id.{Id}
+use Rattle.isotp_receive.specs.Channels.{channel_of}
 use Rattle.isotp_receive.specs.Trace.{Entry, At, single, first, consecutive, continue_or_wait, role}
-use Rattle.isotp_segment.specs.CanonicalFrames.{padded, single_control, first_control, consecutive_control, continue_control, room_in_first, place_of, frame_count, canonical_frame}
+use Rattle.isotp_segment.specs.CanonicalFrames.{padded, single_control, first_control, consecutive_control, continue_control}
+use Rattle.isotp_segment.specs.CanonicalFrames.{room_in_first, place_of, frame_count, canonical_frame}
 use Rattle.isotp_segment.proofs.Frames.{frame-single, frame-first, frame-continue, frame-consecutive}
 use Rattle.isotp_segment.proofs.Layouts.{layout-single, layout-first, layout-consecutive, layout-continue}
 use Rattle.isotp_segment.proofs.TimedFrames.{entry, StandFrom, role-own, role-other}
@@ -43,23 +45,17 @@ module _ (identifier : Dir → Id) (line micros : ℕ) (T : List Entry) (d : Dir
 -- what they are
 module _ (identifier : Dir → Id) (line micros : ℕ) (d : Dir) (n : ℕ) where
   pub single-role : (message : List ℕ) → 1 ≤ length message → length message ≤ 7
-      → role d (entry identifier line micros n (d, padded (single_control (length message)) message)) ≡ single message
+      → role (channel_of d) (entry identifier line micros n (d, padded (single_control (length message)) message)) ≡ single message
   single-role message some short = role-own identifier line micros d n _ _ (layout-single (identifier d) message some short)
 
   pub first-role : (message : List ℕ) → 8 ≤ length message → length message < 2 ^ 32
-      → role d (entry identifier line micros n (d, padded (first_control (length message)) message))
-      ≡ first (record {
-        line = line + n;
-        micros = micros + n * 1000;
-        len = length message;
-        rx_dl = 8;
-        bytes = take (room_in_first (length message)) message;
-      })
+      → role (channel_of d) (entry identifier line micros n (d, padded (first_control (length message)) message))
+      ≡ first (record { line = line + n; micros = micros + n * 1000; len = length message; rx_dl = 8; bytes = take (room_in_first (length message)) message })
   first-role message low bits = role-own identifier line micros d n _ _ (layout-first (identifier d) message low bits)
 
-  pub consecutive-role : (number : ℕ) (bytes : List ℕ) → role d (entry identifier line micros n (d, padded (consecutive_control number) bytes))
+  pub consecutive-role : (number : ℕ) (bytes : List ℕ) → role (channel_of d) (entry identifier line micros n (d, padded (consecutive_control number) bytes))
       ≡ consecutive (number % 16) 8 (drop 1 (padded (consecutive_control number) bytes))
   consecutive-role number bytes = role-own identifier line micros d n _ _ (layout-consecutive (identifier d) number bytes)
 
-  pub continue-role : role d (entry identifier line micros n (other_direction d, padded continue_control [])) ≡ continue_or_wait
+  pub continue-role : role (channel_of d) (entry identifier line micros n (other_direction d, padded continue_control [])) ≡ continue_or_wait
   continue-role = role-other identifier line micros d n (padded continue_control []) _ (layout-continue (identifier (other_direction d)))

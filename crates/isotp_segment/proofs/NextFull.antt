@@ -6,7 +6,8 @@ use Rattle.std.proofs.lemmas.List.{get_or_past, length-drop}
 use Rattle.direction.specs.Dir.{other_direction}
 use Rattle.direction.specs.declared.Dir.{Dir}
 use Rattle.isotp_pdu.specs.Layout.{first_byte}
-use Rattle.isotp_segment.specs.CanonicalFrames.{IsFullNext, padded, padding, first_control, consecutive_control, place_of, frame_count, canonical_frame, canonical_frames}
+use Rattle.isotp_segment.specs.FullFrames.{FullFrameIsNext}
+use Rattle.isotp_segment.specs.CanonicalFrames.{padded, padding, first_control, consecutive_control, place_of, frame_count, canonical_frame, canonical_frames}
 use Rattle.isotp_segment.proofs.Bytes.{padded-by-place}
 use Rattle.isotp_segment.proofs.Counts.{total-short, total-long, room_in_first-few}
 use Rattle.isotp_segment.proofs.Frames.{drop_canonical_frames, drop_at_end, frame-single, frame-first, frame-continue, frame-consecutive}
@@ -31,13 +32,13 @@ ends b bytes few =
 
 -- a frame of another kind is none
 other_kind : (sender direction : Dir) (b : ℕ) (control bytes : List ℕ) (later : List (Dir × List ℕ)) → (b < 32) ⊎ (48 ≤ b)
-    → IsFullNext sender ((direction, padded (b ∷ control) bytes) ∷ later) → ⊥
+    → FullFrameIsNext sender ((direction, padded (b ∷ control) bytes) ∷ later) → ⊥
 other_kind sender direction b control bytes later other full =
     let first : b ≡ first_byte 2 (full.number % 16) = sym (begins b control bytes) ∙ ap (λ l. slice_index (bytes_of l) 0) full.next in
     elim other [ inl low ↦ omega arith | inr high ↦ omega arith ]
 
 not_first : (sender direction : Dir) (message : List ℕ) (later : List (Dir × List ℕ))
-    → IsFullNext sender ((direction, padded (first_control (length message)) message) ∷ later) → ⊥
+    → FullFrameIsNext sender ((direction, padded (first_control (length message)) message) ∷ later) → ⊥
 not_first sender direction message later = elim (cases_Bool (nat_le (length message) 4095)) [
   | inl t ↦
       (let short = leb-true (length message) 4095 t in
@@ -46,22 +47,22 @@ not_first sender direction message later = elim (cases_Bool (nat_le (length mess
 ]
 
 not_at_0 : (sender direction : Dir) (message : List ℕ) (later : List (Dir × List ℕ))
-    → IsFullNext sender (canonical_frame direction message 0 ∷ later) → ⊥
+    → FullFrameIsNext sender (canonical_frame direction message 0 ∷ later) → ⊥
 not_at_0 sender direction message later full = elim (cases_lt 7 (length message)) [
-  | inl long ↦ not_first sender direction message later (subst (λ f. IsFullNext sender (f ∷ later)) (frame-first direction message long) full)
+  | inl long ↦ not_first sender direction message later (subst (λ f. FullFrameIsNext sender (f ∷ later)) (frame-first direction message long) full)
   | inr short ↦ other_kind sender direction (first_byte 0 (length message)) [] message later (inl (omega arith))
-      (subst (λ f. IsFullNext sender (f ∷ later)) (frame-single direction message 0 short) full)
+      (subst (λ f. FullFrameIsNext sender (f ∷ later)) (frame-single direction message 0 short) full)
 ]
 
 not_at_1 : (sender direction : Dir) (message : List ℕ) (later : List (Dir × List ℕ)) → 7 < length message
-    → IsFullNext sender (canonical_frame direction message 1 ∷ later) → ⊥
+    → FullFrameIsNext sender (canonical_frame direction message 1 ∷ later) → ⊥
 not_at_1 sender direction message later long full =
     other_kind sender (other_direction direction) (first_byte 3 0) (0 ∷ 0 ∷ []) [] later (inr (omega arith))
-    (subst (λ f. IsFullNext sender (f ∷ later)) (frame-continue direction message long) full)
+    (subst (λ f. FullFrameIsNext sender (f ∷ later)) (frame-continue direction message long) full)
 
 -- one behind which no other comes has seven bytes of its message
 fills : (sender direction : Dir) (number : ℕ) (bytes : List ℕ) (later : List (Dir × List ℕ)) → length later ≡ 0
-    → IsFullNext sender ((direction, padded (consecutive_control number) bytes) ∷ later) → 7 ≤ length bytes
+    → FullFrameIsNext sender ((direction, padded (consecutive_control number) bytes) ∷ later) → 7 ≤ length bytes
 fills sender direction number bytes later last full = elim (cases_lt (length bytes) 7) [
   | inl few ↦
       (let none = ap (λ l. length (drop 1 l)) full.next in
@@ -78,14 +79,14 @@ pub record IsFullAt (sender direction : Dir) (message : List ℕ) (number : ℕ)
   pub within : place_of (length message) (number - 1) + 7 ≤ length message
 
 is_left : (limit : ℕ) (sender direction : Dir) (message : List ℕ) (number : ℕ) → 1 ≤ length message → length message ≤ limit
-    → IsFullNext sender (drop number (canonical_frames limit direction message)) → number < frame_count (length message)
+    → FullFrameIsNext sender (drop number (canonical_frames limit direction message)) → number < frame_count (length message)
 is_left limit sender direction message number some high full = elim (cases_lt number (frame_count (length message))) [
   | inl below ↦ below
   | inr above ↦ (let none = ap length (sym (drop_at_end limit direction message number above some high) ∙ full.next) in absurd (omega arith))
 ]
 
 pub is_full_at : (limit : ℕ) (sender direction : Dir) (message : List ℕ) (number : ℕ) → 1 ≤ length message → length message ≤ limit
-    → IsFullNext sender (drop number (canonical_frames limit direction message)) → IsFullAt sender direction message number
+    → FullFrameIsNext sender (drop number (canonical_frames limit direction message)) → IsFullAt sender direction message number
 is_full_at limit sender direction message number some high full = record {
   left = left;
   consecutive = consecutive;
@@ -98,11 +99,11 @@ is_full_at limit sender direction message number some high full = record {
   left : number < frame_count (length message)
   left = is_left limit sender direction message number some high full
 
-  here : IsFullNext sender (canonical_frame direction message number ∷ later)
-  here = subst (IsFullNext sender) (drop_canonical_frames limit direction message number left some high) full
+  here : FullFrameIsNext sender (canonical_frame direction message number ∷ later)
+  here = subst (FullFrameIsNext sender) (drop_canonical_frames limit direction message number left some high) full
 
-  at : (n : ℕ) → number ≡ n → IsFullNext sender (canonical_frame direction message n ∷ later)
-  at n is = subst (λ k. IsFullNext sender (canonical_frame direction message k ∷ later)) is here
+  at : (n : ℕ) → number ≡ n → FullFrameIsNext sender (canonical_frame direction message n ∷ later)
+  at n is = subst (λ k. FullFrameIsNext sender (canonical_frame direction message k ∷ later)) is here
 
   from_1 : 1 ≤ number
   from_1 = elim (cases_lt number 1) [
@@ -125,8 +126,8 @@ is_full_at limit sender direction message number some high full = record {
   bytes : List ℕ
   bytes = drop (place_of (length message) (number - 1)) message
 
-  spelled : IsFullNext sender ((direction, padded (consecutive_control (number - 1)) bytes) ∷ later)
-  spelled = subst (λ f. IsFullNext sender (f ∷ later)) (frame-consecutive direction message (number - 1) long (omega (arith, consecutive)))
+  spelled : FullFrameIsNext sender ((direction, padded (consecutive_control (number - 1)) bytes) ∷ later)
+  spelled = subst (λ f. FullFrameIsNext sender (f ∷ later)) (frame-consecutive direction message (number - 1) long (omega (arith, consecutive)))
       (at (1 + (number - 1)) (omega (arith, consecutive)))
 
   within : place_of (length message) (number - 1) + 7 ≤ length message

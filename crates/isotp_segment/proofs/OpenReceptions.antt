@@ -2,7 +2,7 @@
 use Rattle.std.proofs.Common.{◌≡◌, ℕ, ◌+◌, ◌-◌, ◌<◌, ◌≤◌, List, drop, Result, Ok, Err, refl, sym, ap, arith, inl, inr, subst}
 use Rattle.std.specs.Prelude.{⊤}
 use Rattle.std.proofs.lemmas.Bool.{cases_lt}
-use Rattle.direction.specs.declared.Dir.{Dir}
+use Rattle.isotp_receive.specs.declared.channel.Channel.{Channel}
 use Rattle.isotp_pdu.specs.declared.PduFault.{PduFault}
 use Rattle.isotp_pdu.specs.Layout.{Layout}
 use Rattle.isotp_pdu.specs.Layout as layout
@@ -12,7 +12,7 @@ use Rattle.isotp_receive.specs.Places.{bytes_in_first, FitsAs, IsConsecutiveCoun
 use Rattle.isotp_receive.specs.OnTime.{IsOnTime}
 use Rattle.isotp_receive.specs.OpenReception.{LeavesOpen, IsOpenAt}
 use Rattle.isotp_receive.specs.Delivers.{Completes}
-use Rattle.isotp_receive.proofs.Promises.{first_frame_is_read}
+use Rattle.isotp_receive.proofs.Promises.{first_frame_is_read, said_is_read}
 use Rattle.isotp_segment.proofs.ConsecutiveCounts.{counted-more, counted-between, one-count}
 
 -- there is one entry at a position
@@ -20,11 +20,11 @@ pub same-entry : (T : List Entry) (position : ℕ) (e other : Entry) → At T po
 same-entry T position e other at there = cc
 
 -- no reception of d is open at the position
-abbrev pub IsClosedAt : ℕ → List Entry → Dir → ℕ → Type 0
+abbrev pub IsClosedAt : ℕ → List Entry → Channel → ℕ → Type 0
 IsClosedAt limit T d position = (begun number : ℕ) → IsOpenAt limit T d begun number position → ⊥
 
 -- a reception that is open was open at each position since it began
-unfoldable pub open-since : (limit : ℕ) (T : List Entry) (d : Dir) (begun number position : ℕ)
+unfoldable pub open-since : (limit : ℕ) (T : List Entry) (d : Channel) (begun number position : ℕ)
     (reception : IsOpenAt limit T d begun number position) (place : ℕ)
     → begun < place → place ≤ position → IsOpenAt limit T d begun (consecutive_frames_in d (between T begun place)) place
 open-since limit T d begun number position reception place later most = record {
@@ -53,13 +53,13 @@ IsFirst (Ok (layout.flow_control status)) = ⊥
 IsFirst (Err fault) = ⊥
 
 -- only a first frame of the direction begins a reception
-pub begins-reception : (d : Dir) (e : Entry) (start : FirstFrame) → role d e ≡ first start → (d ≡ e.dir) × IsFirst (layout_of e.frame)
+pub begins-reception : (d : Channel) (e : Entry) (start : FirstFrame) → role d e ≡ first start → (d ≡ e.channel) × IsFirst (layout_of e.frame)
 begins-reception d e start is =
     let read = first_frame_is_read d e start is in
-    (read.0, subst IsFirst (sym read.1) tt)
+    (read.0, subst IsFirst (sym (said_is_read e _ read.1)) tt)
 
 -- Where the frame at `position` completes a message: what each consecutive frame since its first one was waited for as.
-module _ (limit : ℕ) (T : List Entry) (d : Dir) (position : ℕ) (message : List ℕ) (completed : Completes limit T position d message) where
+module _ (limit : ℕ) (T : List Entry) (d : Channel) (position : ℕ) (message : List ℕ) (completed : Completes limit T position d message) where
   abbrev start : FirstFrame
   start = completed.fit.is_open.begins.start
 

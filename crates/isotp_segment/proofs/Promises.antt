@@ -1,7 +1,7 @@
 -- The proofs of the public laws, each under the name of its statement in specs/, for the crates above to cite. Nothing
 -- else of proofs/ is for them.
 use Rattle.isotp_segment.specs.Laws.{CanonicalFramesAreARecording, CanonicalFramesAreClean, CanonicalFramesDeliver, CanonicalFramesDeliverNothingBefore}
-pub use Rattle.isotp_segment.proofs.Counts.{frame_count_by_length, count-least as consecutive_count_is_least}
+pub use Rattle.isotp_segment.proofs.Counts.{frame_count_by_length, consecutive_count_is_least}
 pub use Rattle.isotp_segment.proofs.EightBytes.{canonical_frames_have_eight_bytes, short_message_is_one_frame}
 use Rattle.isotp_segment.proofs.Recorded.{frames-recording}
 use Rattle.isotp_segment.proofs.CleanFrames.{frames-clean}

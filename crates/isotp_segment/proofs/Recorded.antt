@@ -1,5 +1,5 @@
 -- The canonical frames of messages, a millisecond apart, are a recording of them.
-use Rattle.std.proofs.Common.{◌≡◌, ℕ, ◌+◌, ◌<◌, ◌≤◌, ◌^◌, false, List, [], ◌∷◌, length, map, nat_lt, refl, ap, arith, inl, inr}
+use Rattle.std.proofs.Common.{◌≡◌, ℕ, ◌+◌, ◌<◌, ◌≤◌, ◌^◌, false, List, [], ◌∷◌, length, map, nat_lt, refl, sym, ◌∙◌, ap, arith, inl, inr}
 use Rattle.std.specs.Prelude.{◌⊎◌}
 use Rattle.std.specs.List.{AllByRecursion}
 use Rattle.std.proofs.lemmas.Bool.{le-ltb, cases_lt}
@@ -7,8 +7,9 @@ use Rattle.std.proofs.lemmas.Option.{slice_get_within}
 use Rattle.direction.specs.Dir.{Message}
 use Rattle.direction.specs.declared.Dir.{Dir}
 use Rattle.can_log.specs.declared.frame.Id.{Id}
-use Rattle.isotp_pdu.specs.Reading.{layout_of}
-use Rattle.isotp_receive.specs.Trace.{Entry, At}
+use Rattle.isotp_receive.specs.Channels.{channel_of, dir_of}
+use Rattle.isotp_receive.proofs.Promises.{sender}
+use Rattle.isotp_receive.specs.Trace.{Entry, At, layout_in}
 use Rattle.isotp_receive.specs.Recording.{Transfer, IsTransfer, IsIn, last_or, AreApart, EachPair, IsGiven, IsIdle, IsRecording, ended_within}
 use Rattle.isotp_segment.specs.CanonicalFrames.{frame_count}
 use Rattle.isotp_segment.specs.Timed.{timed, HasFrames, all_frames}
@@ -18,7 +19,7 @@ use Rattle.isotp_segment.proofs.AllFrames.{AreLastFrom, all-of-them, those-behin
 
 -- a message with the positions of its frames, the first of which is `begun`
 abbrev pub transfer_from : ℕ → Message → Transfer
-transfer_from begun x = record { dir = x.0; message = x.1; positions = positions_of x.1 begun }
+transfer_from begun x = record { channel = channel_of x.0; message = x.1; positions = positions_of x.1 begun }
 
 -- the messages, each after the one before
 abbrev pub transfers_from : ℕ → List Message → List Transfer
@@ -47,9 +48,11 @@ each-pair (x ∷ M) begun =
       each-pair M behind,
     )
 
-messages-same : (M : List Message) (begun : ℕ) → map {B = Message} (λ t. (t.dir, t.message)) (transfers_from begun M) ≡ M
+messages-same : (M : List Message) (begun : ℕ) → map {B = Message} (λ t. (dir_of t.channel, t.message)) (transfers_from begun M) ≡ M
 messages-same [] begun = refl
-messages-same (x ∷ M) begun = ap (λ l. x ∷ l) (messages-same M (begun + frame_count (length x.1)))
+messages-same (x ∷ M) begun =
+    ap (λ b. (b, x.1) ∷ map {B = Message} (λ t. (dir_of t.channel, t.message)) (transfers_from (begun + frame_count (length x.1)) M)) (sym (sender x.0))
+    ∙ ap (λ l. x ∷ l) (messages-same M (begun + frame_count (length x.1)))
 
 module _ (identifier : Dir → Id) (line micros limit : ℕ) (bits : limit < 2 ^ 32) where
   module _ (frames : List (Dir × List ℕ)) where
@@ -65,7 +68,7 @@ module _ (identifier : Dir → Id) (line micros limit : ℕ) (bits : limit < 2 ^
     )
 
     all-others : (M : List Message) (begun : ℕ) → AreLastFrom limit frames M begun
-        → (p : ℕ) (e : Entry) → begun ≤ p → At T p e → IsGiven p (transfers_from begun M) ⊎ IsIdle (layout_of e.frame)
+        → (p : ℕ) (e : Entry) → begun ≤ p → At T p e → IsGiven p (transfers_from begun M) ⊎ IsIdle (layout_in e)
     all-others [] begun last p e above there =
         absurd (omega (arith, slice_get_within T p e there, none-left identifier line micros limit frames begun last))
     all-others (x ∷ M) begun last p e above there = elim (cases_lt p (begun + frame_count (length x.1))) [

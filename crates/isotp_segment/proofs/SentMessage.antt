@@ -3,6 +3,8 @@ use Rattle.std.proofs.Common.{◌≡◌, ℕ, suc, ◌+◌, ◌-◌, ◌<◌, �
 use Rattle.std.specs.List.{range_with_len}
 use Rattle.std.proofs.lemmas.Bool.{lt-leb}
 use Rattle.direction.specs.declared.Dir.{Dir}
+use Rattle.isotp_receive.specs.declared.channel.Channel.{Channel}
+use Rattle.isotp_receive.specs.Channels.{channel_of}
 use Rattle.can_log.specs.declared.frame.Id.{Id}
 use Rattle.isotp_receive.specs.Trace.{Entry}
 use Rattle.isotp_receive.specs.Delivers.{Completes}
@@ -14,26 +16,27 @@ use Rattle.isotp_segment.proofs.Positions.{positions_of, last-position-is}
 use Rattle.isotp_segment.proofs.TimedFrames.{StandFrom}
 use Rattle.isotp_segment.proofs.OpenReceptions.{IsClosedAt}
 
+-- A message whose frames stand in the trace from `begun` on, and are given to it, where no reception is open.
 pub record IsSent (identifier : Dir → Id) (line micros limit : ℕ) (T : List Entry) (d : Dir) (message : List ℕ) (begun : ℕ) : Type 0 where
   pub some : 1 ≤ length message
   pub fits : length message ≤ limit
   pub stand : StandFrom identifier line micros T d message begun
-  pub given : AreFramesOf limit T d message (positions_of message begun)
-  pub closed : (heard : Dir) → IsClosedAt limit T heard begun
+  pub given : AreFramesOf limit T (channel_of d) message (positions_of message begun)
+  pub closed : (heard : Channel) → IsClosedAt limit T heard begun
 
 -- The last of several frames completes the reception that the first one began.
-pub record IsCompleted (limit : ℕ) (T : List Entry) (d : Dir) (message : List ℕ) (begun : ℕ) : Type 0 where
+pub record IsCompleted (limit : ℕ) (T : List Entry) (d : Channel) (message : List ℕ) (begun : ℕ) : Type 0 where
   pub last : ℕ
   pub ends : last + 1 ≡ begun + frame_count (length message)
   pub completed : Completes limit T last d message
   pub from : completed.fit.begun ≡ begun
 
-two-or-more : (limit : ℕ) (T : List Entry) (d : Dir) (message : List ℕ) (begun next : ℕ) (positions : List ℕ)
+two-or-more : (limit : ℕ) (T : List Entry) (d : Channel) (message : List ℕ) (begun next : ℕ) (positions : List ℕ)
     → AreFramesOf limit T d message (begun ∷ next ∷ positions)
     → (completed : Completes limit T (last_or next positions) d message) × (completed.fit.begun ≡ begun)
 two-or-more limit T d message begun next positions (together completed from only) = (completed, from)
 
-pub is-completed : (limit : ℕ) (T : List Entry) (d : Dir) (message : List ℕ) (begun : ℕ) → 7 < length message
+pub is-completed : (limit : ℕ) (T : List Entry) (d : Channel) (message : List ℕ) (begun : ℕ) → 7 < length message
     → AreFramesOf limit T d message (positions_of message begun) → IsCompleted limit T d message begun
 is-completed limit T d message begun long given =
     let count = consecutive_count (length message) in

@@ -1,27 +1,22 @@
 -- Canonical frames as the entries of a trace: which is at which position, and what it is to the receptions.
-use Rattle.std.proofs.Common.{◌≡◌, ℕ, zero, suc, ◌+◌, ◌*◌, ◌<◌, ◌≤◌, false, List, [], ◌∷◌, ◌++◌, length, take, Some, Result, refl, ◌∙◌, ap, arith}
+use Rattle.std.proofs.Common.{◌≡◌, ℕ, zero, suc, ◌+◌, ◌*◌, ◌<◌, ◌≤◌, false, List, [], ◌∷◌, ◌++◌, length, take, Some, Result, Ok, refl, ◌∙◌, ap, arith}
 use Rattle.std.specs.Prelude.{slice_get}
 use Rattle.std.proofs.lemmas.Option.{slice_get-get_or}
 use Rattle.std.proofs.lemmas.List.FromFn.{get_or-map-range_with_len}
 use Rattle.direction.specs.Dir.{other_direction}
 use Rattle.direction.specs.declared.Dir.{Dir}
-use Rattle.direction.specs.declared.Dir.TheVariants.{Tester, Unit}
 use Rattle.can_log.specs.declared.frame.Id.{Id}
 use Rattle.isotp_pdu.specs.declared.PduFault.{PduFault}
 use Rattle.isotp_pdu.specs.Layout.{Layout}
 use Rattle.isotp_pdu.specs.Reading.{layout_of}
-use Rattle.isotp_receive.specs.Trace.{Entry, At, role, own_role, other_role, same_direction}
-use Rattle.isotp_receive.proofs.Promises.{get-left, same-self}
+use Rattle.isotp_receive.specs.Channels.{channel_of, to_one}
+use Rattle.isotp_receive.specs.Trace.{Entry, At, role, own_role, other_role, layout_in}
+use Rattle.isotp_receive.proofs.Promises.{get-left, same-self, apart_channels, said_on}
 use Rattle.isotp_segment.specs.CanonicalFrames.{frame_count, canonical_frame, canonical_frames}
 use Rattle.isotp_segment.specs.Timed.{timed}
 use Rattle.isotp_segment.proofs.Lists.{get-later}
 use Rattle.isotp_segment.proofs.Frames.{frames_of, length-canonical_frames}
 use Rattle.isotp_segment.proofs.Layouts.{classic}
-
--- a direction is not the other one
-not-other : (d : Dir) → same_direction d (other_direction d) ≡ false
-not-other Tester = refl
-not-other Unit = refl
 
 canonical_frames-at : (limit : ℕ) (d : Dir) (message : List ℕ) (number : ℕ) → 1 ≤ length message → length message ≤ limit
     → number < frame_count (length message) → slice_get (canonical_frames limit d message) number ≡ Some (canonical_frame d message number)
@@ -37,21 +32,27 @@ abbrev pub entry : (Dir → Id) → ℕ → ℕ → ℕ → Dir × List ℕ → 
 entry identifier line micros n frame = record {
   line = line + n;
   micros = micros + n * 1000;
-  dir = frame.0;
+  channel = channel_of frame.0;
   frame = classic (identifier frame.0) frame.1;
 }
 
 -- what it is to the direction that sent it, and to the other one
 module _ (identifier : Dir → Id) (line micros : ℕ) (d : Dir) (n : ℕ) (bytes : List ℕ) (r : Result Layout PduFault) where
   pub role-own : layout_of (classic (identifier d) bytes) ≡ r
-      → role d (entry identifier line micros n (d, bytes)) ≡ own_role (line + n) (micros + n * 1000) r
-  unfolding role
-  role-own is = rw (same-self d, is) refl
+      → role (channel_of d) (entry identifier line micros n (d, bytes)) ≡ own_role (line + n) (micros + n * 1000) (to_one r)
+  unfolding role layout_in
+  role-own is = rw (same-self (channel_of d), said_on d, is) refl
 
   pub role-other : layout_of (classic (identifier (other_direction d)) bytes) ≡ r
-      → role d (entry identifier line micros n (other_direction d, bytes)) ≡ other_role r
-  unfolding role
-  role-other is = rw (not-other d, is) refl
+      → role (channel_of d) (entry identifier line micros n (other_direction d, bytes)) ≡ other_role (to_one r)
+  unfolding role layout_in
+  role-other is = rw (apart_channels d, said_on (other_direction d), is) refl
+
+-- and what it says
+pub says : (identifier : Dir → Id) (line micros n : ℕ) (d : Dir) (bytes : List ℕ) (found : Layout) → layout_of (classic (identifier d) bytes) ≡ Ok found
+    → layout_in (entry identifier line micros n (d, bytes)) ≡ Ok found
+unfolding layout_in
+says identifier line micros n d bytes found is = said_on d (layout_of (classic (identifier d) bytes)) ∙ ap to_one is
 
 module _ (identifier : Dir → Id) where
   entry-next : (line micros n : ℕ) (frame : Dir × List ℕ)
@@ -62,7 +63,7 @@ module _ (identifier : Dir → Id) where
       rw (same_line, same_time) refl
 
   entry-first : (line micros : ℕ) (frame other : Dir × List ℕ) → frame ≡ other
-      → record { line = line; micros = micros; dir = frame.0; frame = classic (identifier frame.0) frame.1 } ≡ entry identifier line micros 0 other
+      → record { line = line; micros = micros; channel = channel_of frame.0; frame = classic (identifier frame.0) frame.1 } ≡ entry identifier line micros 0 other
   entry-first line micros frame other same =
       let same_line : line + 0 ≡ line = omega arith in
       let same_time : micros + 0 * 1000 ≡ micros = omega arith in
@@ -84,7 +85,7 @@ module _ (identifier : Dir → Id) where
   take-timed line micros zero frames = refl
   take-timed line micros (suc n) [] = refl
   take-timed line micros (suc n) (frame ∷ frames) =
-      ap (λ rest. record { line = line; micros = micros; dir = frame.0; frame = classic (identifier frame.0) frame.1 } ∷ rest)
+      ap (λ rest. record { line = line; micros = micros; channel = channel_of frame.0; frame = classic (identifier frame.0) frame.1 } ∷ rest)
       (take-timed (line + 1) (micros + 1000) n frames)
 
   -- the frames of the message are in the trace from position `begun` on

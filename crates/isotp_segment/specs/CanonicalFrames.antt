@@ -1,6 +1,7 @@
 -- The canonical frames of a message: classic frames of 8 bytes with normal addressing (ISO 15765-2:2016, section 9.6),
 -- each by its number and by the place in the message where its bytes begin. Sections are of that standard.
-use Rattle.std.specs.Prelude.{◌≡◌, ◌≢◌, ℕ, ◌+◌, ◌-◌, ◌/◌, ◌%◌, ◌^◌, ◌≤◌, ◌⊎◌, List, [], ◌∷◌, ◌++◌, length, map, take, drop, replicate, slice_get, Some, nat_le, ◌==◌, ◌&&◌, if◌then◌else◌}
+use Rattle.std.specs.Prelude.{ℕ, ◌+◌, ◌-◌, ◌/◌, ◌%◌, ◌^◌, List, [], ◌++◌, ◌∷◌, length, map, take, drop, replicate}
+use Rattle.std.specs.Prelude.{nat_le, ◌==◌, ◌&&◌, if◌then◌else◌}
 use Rattle.std.specs.List.{range_with_len}
 use Rattle.direction.specs.Dir.{other_direction}
 use Rattle.direction.specs.declared.Dir.{Dir}
@@ -70,12 +71,3 @@ canonical_frames limit direction message =
     if nat_le 1 (length message) && nat_le (length message) limit
     then map (canonical_frame direction message) (range_with_len 0 (frame_count (length message)))
     else []
-
--- The next of these frames is a consecutive one of this sender that its message fills: another frame comes behind it,
--- or it does not end in padding. (Where a message itself ends in a byte of that value, its last frame does not tell.)
-pub record IsFullNext (sender : Dir) (frames : List (Dir × List ℕ)) : Type 0 where
-  pub number : ℕ
-  pub part : List ℕ
-  pub later : List (Dir × List ℕ)
-  pub next : frames ≡ (sender, consecutive_control number ++ part) ∷ later
-  pub full : (1 ≤ length later) ⊎ (slice_get part 6 ≢ Some padding)

@@ -56,14 +56,15 @@ abbrev pub CanonicalFramesAreClean : Type 0
 CanonicalFramesAreClean = (limit : ℕ) (identifier : Dir → Id) (line micros : ℕ) (M : List Message)
     → limit < 2 ^ 32 → AllByRecursion (HasFrames limit) M → IsClean limit (timed identifier line micros (all_frames limit M))
 
--- received after any trace they deliver the message, and nothing else
+-- received after any trace, the canonical frames of a message deliver it, and nothing else
 abbrev pub CanonicalFramesDeliver : Type 0
 CanonicalFramesDeliver = (limit : ℕ) (identifier : Dir → Id) (line micros : ℕ) (T : List Entry) (d : Dir) (message : List ℕ)
     → limit < 2 ^ 32 → 1 ≤ length message → length message ≤ limit
     → messages limit (T ++ timed identifier line micros (canonical_frames limit d message)) ≡ messages limit T ++ (d, message) ∷ []
 
--- it is the last of them that does: the frames before it deliver nothing
+-- received after any trace, the canonical frames of a message but the last deliver nothing
 abbrev pub CanonicalFramesDeliverNothingBefore : Type 0
-CanonicalFramesDeliverNothingBefore = (limit : ℕ) (identifier : Dir → Id) (line micros : ℕ) (T : List Entry) (d : Dir) (message : List ℕ) (n : ℕ)
+CanonicalFramesDeliverNothingBefore = (limit : ℕ) (identifier : Dir → Id) (line micros : ℕ) (T : List Entry) (d : Dir)
+    (message : List ℕ) (n : ℕ)
     → limit < 2 ^ 32 → 1 ≤ length message → length message ≤ limit → n < length (canonical_frames limit d message)
     → messages limit (T ++ timed identifier line micros (take n (canonical_frames limit d message))) ≡ messages limit T

@@ -1,4 +1,5 @@
 pub mod CanonicalFrames
+pub mod FullFrames
 pub mod Timed
 pub mod Laws
 pub mod proving

@@ -5,6 +5,7 @@ use Rattle.direction.specs.Dir.{Message}
 use Rattle.direction.specs.declared.Dir.{Dir}
 use Rattle.can_log.specs.declared.frame.Id.{Id}
 use Rattle.can_log.specs.declared.frame.Kind.TheVariants.{Classic}
+use Rattle.isotp_receive.specs.Channels.{channel_of}
 use Rattle.isotp_receive.specs.Trace.{Entry}
 use Rattle.isotp_segment.specs.CanonicalFrames.{canonical_frames}
 
@@ -12,7 +13,12 @@ use Rattle.isotp_segment.specs.CanonicalFrames.{canonical_frames}
 abbrev pub timed : (Dir → Id) → ℕ → ℕ → List (Dir × List ℕ) → List Entry
 timed identifier line micros [] = []
 timed identifier line micros (frame ∷ frames) =
-    record { line = line; micros = micros; dir = frame.0; frame = record { id = identifier frame.0; kind = Classic; bytes = frame.1 } }
+    record {
+      line = line;
+      micros = micros;
+      channel = channel_of frame.0;
+      frame = record { id = identifier frame.0; kind = Classic; bytes = frame.1 };
+    }
     ∷ timed identifier (line + 1) (micros + 1000) frames
 
 -- a message that has canonical frames

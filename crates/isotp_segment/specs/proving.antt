@@ -1,4 +1,4 @@
 -- Devices of proof, apart from the definitions that the promises are made of.
 pub mod Given
-pub mod Places
+pub mod ConsecutivePlaces
 pub mod Ends

@@ -27,18 +27,19 @@ impl<'a> Model for Segments<'a> {
     ghost use Rattle.direction.specs.declared.Dir.{Dir};
     ghost use Rattle.isotp_receive.specs.declared.TheConstants.{MESSAGE_LIMIT};
     ghost use Rattle.isotp_segment.specs.CanonicalFrames.{canonical_frames};
-    ghost use Rattle.isotp_segment.specs.proving.Given.{AreGiven};
+    ghost use Rattle.isotp_segment.specs.proving.Given.{HasGiven};
 
     ghost Value = { List (Dir × List ℕ) };
 
     ghost view = { λ s. drop s.number (canonical_frames MESSAGE_LIMIT s.dir s.message.now) };
 
-    ghost invariant = { λ s. AreGiven s.message.now s.count s.number };
+    ghost invariant = { λ s. HasGiven s.message.now s.count s.number };
 }
 
 impl<'a> Segments<'a> {
     ghost use Rattle.std.specs.Prelude.{◌≡◌, ◌≤◌, [], ◌∷◌, List, ℕ, length, IfSome, IfNone, IsSome};
-    ghost use Rattle.isotp_segment.specs.CanonicalFrames.{IsFullNext, canonical_frames};
+    ghost use Rattle.isotp_segment.specs.CanonicalFrames.{canonical_frames};
+    ghost use Rattle.isotp_segment.specs.FullFrames.{FullFrameIsNext};
     ghost use Rattle.isotp_receive.specs.declared.TheConstants.{MESSAGE_LIMIT};
 
     /// The frames of a message that is sent in the direction `dir`.
@@ -55,22 +56,21 @@ impl<'a> Segments<'a> {
         }
     }
 
-    /// The next frame, if it is a consecutive one of this sender that the message fills: eight bytes of the message
-    /// in one piece, of which the control byte takes the place of the first. Most frames of a long message are such,
-    /// and whoever takes them in a loop of their own meets no other kind there. The sender is the one of `new`: a
-    /// contract over the frames alone knows no other way to name it.
+    /// The next frame, if it is a consecutive one of this sender, which must be that of `new`, and the message fills it.
+    /// For a loop over the frames of a long message.
     #[tactic(auto, using(crate::proofs::Frames::drop_canonical_frames), unfolding(crate::specs::CanonicalFrames::canonical_frame))]
     #[inline(always)]
     pub fn next_full(&mut self, sender: Dir) -> Option<[u8; 8]>
         ensures some { IfSome result (λ frame. self.old ≡ (sender, frame) ∷ self.new) }
         ensures none { IfNone result (self.new ≡ self.old) }
-        ensures misses_none { IsFullNext sender self.old → IsSome result }
+        ensures misses_none { FullFrameIsNext sender self.old → IsSome result }
     {
         // Frames 0 and 1 are the first frame and the continue frame: frame 2 is consecutive frame 1. A message of one
         // frame has no frame 2.
         if self.number < 2 || self.count <= self.number || sender != self.dir {
             return None;
         }
+        // The control byte takes the place of the byte before those of the message.
         let frame = full_frame(self.message, self.number - 1)?;
         self.number += 1;
         Some(frame)

@@ -13,7 +13,9 @@ use Rattle.isotp_receive.specs.declared.event.Reason.TheVariants as reason
 use Rattle.uds_exchange.specs.Meaning.{ItemValue, exchange, stray}
 use Rattle.uds_exchange.specs.declared.step.Step.{Step}
 use Rattle.uds_exchange.specs.declared.step.Step.TheVariants as becomes
-use Rattle.uds_find.specs.Finding.{credit_line}
+use Rattle.std.specs.Option.{option_map}
+use Rattle.can_log.specs.declared.frame.Id.{Id}
+use Rattle.uds_find.specs.Finding.{credit_line, id_text}
 use Rattle.uds_message.specs.Message.{sid, is_negative_response, response_code, is_suppressing}
 use Rattle.uds_rules.specs.Rule.{RuleValue}
 use Rattle.trace_canon.specs.declared.comparer.Comparison.{Comparison}
@@ -25,9 +27,10 @@ use Rattle.trace_text.specs.declared.remark.Remark.TheVariants as remark
 use Rattle.trace_canon.specs.ComparisonText.{shown_members, shown_value, comparison_members}
 use Rattle.trace_text.specs.RemarkLines.{cause_text, layout_fault_text, reason_members, remark_members}
 use Rattle.trace_canon.specs.CreditLines.{credit_object}
+use Rattle.trace_canon.specs.CreditLines as credit
 use Rattle.trace_text.specs.Json.{Members, null, truth, number, pair, string, object, nothing, member}
 use Rattle.trace_text.specs.ItemLines.{answer_members, outcome_members, item_members, item_object}
-use Rattle.trace_canon.specs.MessagesScript.{placed_members}
+use Rattle.trace_canon.specs.MessagesScript.{functional_member, placed_members}
 use Rattle.trace_text.specs.Words.{role_text}
 use Rattle.trace_text.specs.RuledText.{ruled_text}
 use Rattle.trace_text.specs.Words.{direction_text, service_text, code_text}
@@ -161,6 +164,23 @@ role_plain becomes.Removed = plain (codes "pending") refl
 role_plain becomes.Hold = plain (codes "stray") refl
 role_plain becomes.Pass = plain (codes "stray") refl
 
+functional_plain : (to_all : Bool) (message : List ℕ) → IsPlain message
+    → ArePlain 1 (functional_member to_all (member (codes "message") (string message) nothing))
+functional_plain true message is = (
+  plain (codes "functional") refl,
+  tt,
+  (
+    plain (codes "message") refl,
+    is,
+    tt,
+  ),
+)
+functional_plain false message is = (
+  plain (codes "message") refl,
+  is,
+  tt,
+)
+
 pub messages_are_read_as_meant : MessagesAreReadAsMeant
 messages_are_read_as_meant rules placed =
     read_as_meant (placed_members rules placed) (
@@ -184,11 +204,7 @@ messages_are_read_as_meant rules placed =
                 (
                   plain (codes "end") refl,
                   stamp_plain placed.extent.last.micros,
-                  (
-                    plain (codes "message") refl,
-                    message_plain rules placed.sent.1,
-                    tt,
-                  ),
+                  functional_plain placed.extent.is_functional (ruled_text rules placed.sent.1) (message_plain rules placed.sent.1),
                 ),
               ),
             ),
@@ -218,6 +234,7 @@ reason_plain (reason.NextSequence expected found) = (
   ),
 )
 reason_plain reason.NextLength = (plain (codes "reason") refl, plain (codes "consecutive frame length") refl, tt)
+reason_plain reason.FunctionalNotSingle = (plain (codes "reason") refl, plain (codes "functional frame not single") refl, tt)
 reason_plain (reason.TooLong announced) = (
   plain (codes "reason") refl,
   plain (codes "bytes announced") refl,
@@ -326,9 +343,13 @@ comparisons_are_read_as_meant rules shows comparison left right =
 
 -- ---- pairs
 
+beside_plain : (functional : Option Id) → ArePlain 1 (credit.functional_member (option_map id_text functional))
+beside_plain None = tt
+beside_plain (Some one) = (plain (codes "functional") refl, identifier_plain one, tt)
+
 pub pairs_are_read_as_meant : PairsAreReadAsMeant
-pairs_are_read_as_meant frames sides =
-    read_as_meant (credit_object (credit_line frames sides)) (
+pairs_are_read_as_meant frames found =
+    read_as_meant (credit_object (credit_line frames found)) (
       plain (codes "credits") refl,
       tt,
       (
@@ -336,11 +357,11 @@ pairs_are_read_as_meant frames sides =
         tt,
         (
           plain (codes "tester") refl,
-          identifier_plain sides.tester,
+          identifier_plain found.pair.tester,
           (
             plain (codes "unit") refl,
-            identifier_plain sides.unit,
-            tt,
+            identifier_plain found.pair.unit,
+            beside_plain found.functional,
           ),
         ),
       ),

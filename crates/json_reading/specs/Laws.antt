@@ -12,8 +12,7 @@ use Rattle.trace_text.specs.ItemLines.{item_object}
 use Rattle.trace_canon.specs.MessagesScript.{PlacedMessage, placed_members}
 use Rattle.uds_exchange.specs.Meaning.{ItemValue}
 use Rattle.uds_rules.specs.Rule.{RuleValue}
-use Rattle.uds_find.specs.Finding.{credit_line}
-use Rattle.uds_find.specs.declared.pair.IdPair.{IdPair}
+use Rattle.uds_find.specs.Finding.{FoundUnit, credit_line}
 
 -- an item of a list, with its number or without, whatever the rules
 abbrev pub ItemsAreReadAsMeant : Type 0
@@ -33,6 +32,6 @@ ComparisonsAreReadAsMeant =
     (rules : List RuleValue) (shows : Bool) (comparison : Comparison) (left right : List ItemValue)
     → IsReadAsMeant (comparison_members rules shows comparison left right)
 
--- a pair of identifiers, with the number of its credits and of its tester's requests
+-- a unit with its tester, the number of its credits and of its tester's requests, and its functional identifier
 abbrev pub PairsAreReadAsMeant : Type 0
-PairsAreReadAsMeant = (frames : List FrameValue) (pair : IdPair) → IsReadAsMeant (credit_object (credit_line frames pair))
+PairsAreReadAsMeant = (frames : List FrameValue) (found : FoundUnit) → IsReadAsMeant (credit_object (credit_line frames found))

@@ -3,7 +3,7 @@
 use crate::message::{message_of, sum_of};
 use can_log::{Frame, Id, Kind};
 use direction::Dir;
-use isotp_receive::{Pair, Verdict};
+use isotp_receive::{Channel, Pair, Verdict};
 use isotp_segment::Segments;
 use std::alloc::{AllocError, Global};
 
@@ -14,7 +14,10 @@ pub(crate) fn sum_of_messages(alloc: Global, size: u64, count: u64) -> Result<u6
     let mut sum = 0u64;
     for _ in 0..count {
         for (dir, frame) in &frames {
-            if let Verdict::Message(message) = pair.accept(0, 0, *dir, frame)?.verdict {
+            if let Verdict::Message(message) = pair
+                .accept(0, 0, Channel::of(*dir), frame)?
+                .verdict
+            {
                 sum = sum.wrapping_add(sum_of(message));
             }
         }

@@ -1,6 +1,6 @@
 //! A line that is made in memory.
 
-ghost use Rattle.std.specs.Prelude.{◌≡◌, IfOk};
+ghost use Rattle.std.specs.Prelude.{◌≡◌, ◌≤◌, length, IfOk, OnErr};
 
 use std::alloc::{AllocError, Global};
 use text_parts::{Part, say};
@@ -8,7 +8,8 @@ use trace_io::TextSink;
 
 /// The line of this text.
 pub fn line_in<P: Part>(alloc: Global, part: P) -> Result<Vec<u8>, AllocError>
-    ensures { IfOk result (λ line. line.items ≡ P.text part) }
+    ensures ok { IfOk result (λ line. line.items ≡ P.text part) }
+    ensures err { OnErr result (1 ≤ length (P.text part)) }
 {
     let mut sink = MemorySink {
         line: Vec::new(alloc),
@@ -38,7 +39,7 @@ impl TextSink for MemorySink {
     ghost onward = { λ s m t a b one two. took_onward_unless_refused s.is_refused m.is_refused t.is_refused s.line.items m.line.items t.line.items a b one two };
 
     fn put(&mut self, text: &[u8]) {
-        if self.is_refused {
+        if self.is_refused || text.is_empty() {
             return;
         }
         if let Err(_refused) = self.line.extend_from_slice(text) {

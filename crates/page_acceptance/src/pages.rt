@@ -17,17 +17,22 @@ use trace_report::{KeptSessions, in_memory, keep_two, report};
 use tried_sessions::{
     CANONICAL, LOG, byte_by_byte, failing, full, is_front, is_of_session, repeated, sides,
 };
+use uds_rules::Rules;
 
 /// A log of the same request, and of nothing else.
 const REQUEST: &str = "(0.000000) can0 7E0#0322F190\n";
 
-const TITLE: Title<'static> = Title {
-    style: "",
-    left: b"log",
-    right: b"canonical",
-    tester: Id::Std(0x7E0),
-    unit: Id::Std(0x7E8),
-};
+/// What a page of two logs is made for.
+fn title(rules: &Rules) -> Title<'_> {
+    Title {
+        style: "",
+        left: b"log",
+        right: b"canonical",
+        tester: Id::Std(0x7E0),
+        unit: Id::Std(0x7E8),
+        rules,
+    }
+}
 
 /// What `report` answers over this reader, and the writer as it left it.
 fn reported<R: Read + Drop, W: Write + Drop>(
@@ -74,7 +79,8 @@ fn written<W: Write + Drop>(
     writer: W,
 ) -> (Result<(), Fault>, Writing<W>) {
     let mut writer = Writing::new(writer);
-    let written = write_pair_page(&TITLE, answer, None, &mut writer);
+    let rules = Rules::none();
+    let written = write_pair_page(&title(&rules), answer, None, &mut writer);
     (written, writer)
 }
 
@@ -182,15 +188,15 @@ const EACH_ROW: &str = "\
 /// as numbers.
 const PRINTED: &str = "KeptSession { rows: [\
 Message { sent: SentMessage { role: Request, dir: Tester, place: MessagePlace { item: 1, \
-first: FramePlace { line: 1, micros: 0 }, last: FramePlace { line: 1, micros: 0 }, frames: 1 } }, message: [34, 241, 144] }, \
+first: FramePlace { line: 1, micros: 0 }, last: FramePlace { line: 1, micros: 0 }, frames: 1, is_functional: false } }, message: [34, 241, 144] }, \
 Missing(Ended { place: FramePlace { line: 3, micros: 2000 }, ended: Ended { begun_line: 2, len: 8, dir: Unit, cause: NewStart } }), \
 Message { sent: SentMessage { role: Positive { asked: 0 }, dir: Unit, place: MessagePlace { item: 1, \
-first: FramePlace { line: 3, micros: 2000 }, last: FramePlace { line: 3, micros: 2000 }, frames: 1 } }, message: [98, 241, 144, 65] }, \
+first: FramePlace { line: 3, micros: 2000 }, last: FramePlace { line: 3, micros: 2000 }, frames: 1, is_functional: false } }, message: [98, 241, 144, 65] }, \
 Missing(Dropped { place: FramePlace { line: 4, micros: 3000 }, dir: Unit, linked: true, reason: NextUnexpected }), \
 Message { sent: SentMessage { role: Request, dir: Tester, place: MessagePlace { item: 2, \
-first: FramePlace { line: 5, micros: 4000 }, last: FramePlace { line: 5, micros: 4000 }, frames: 1 } }, message: [34, 241, 145] }, \
+first: FramePlace { line: 5, micros: 4000 }, last: FramePlace { line: 5, micros: 4000 }, frames: 1, is_functional: false } }, message: [34, 241, 145] }, \
 Missing(Unfinished { dir: Unit, line: 6, len: 10 }), \
-Missing(NoAnswer { number: 2, silent: false })], \
+Missing(NoAnswer { number: 2, silence: Unanswered })], \
 summary: Summary { lines: 6, frames: 6, tester_frames: 2, unit_frames: 4, messages: 3, dropped: 1, ended: 1, unfinished: 1, \
 pending: 0, left_out: 0, ends_in_line_feed: true, looks_exchanged: false }, times: Some(Times { first: 0, last: 5000 })";
 

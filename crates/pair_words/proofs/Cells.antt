@@ -1,5 +1,6 @@
 -- The columns of a line, one after another.
-use Rattle.std.proofs.Common.{◌≡◌, ℕ, ◌+◌, ◌-◌, ◌≤◌, ◌<◌, Bool, false, List, [], ◌∷◌, ◌++◌, codes, length, take, drop, Option, Some, None, option_to_list, arith, ap, subst, sym, ◌∙◌, refl}
+use Rattle.std.proofs.Common.{◌≡◌, ℕ, ◌+◌, ◌-◌, ◌≤◌, ◌<◌, Bool, false, List, [], ◌∷◌, ◌++◌, codes, length, take}
+use Rattle.std.proofs.Common.{drop, Option, Some, None, option_to_list, arith, ap, subst, sym, ◌∙◌, refl}
 use Rattle.std.specs.Prelude.{slice_get}
 use Rattle.std.proofs.lemmas.List.{length-append}
 use Rattle.text_parts.proofs.Promises.{IsLeft, said-whole, same-rest, say-last, say-more}

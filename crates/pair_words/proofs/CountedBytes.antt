@@ -1,5 +1,6 @@
 -- The columns that count are those in which a log has a byte.
-use Rattle.std.proofs.Common.{◌≡◌, ℕ, suc, ◌+◌, Bool, true, false, List, [], ◌∷◌, ◌++◌, codes, length, Option, Some, None, option_to_list, ap, ◌∙◌, append_assoc, refl, arith}
+use Rattle.std.proofs.Common.{◌≡◌, ℕ, suc, ◌+◌, Bool, true, false, List, [], ◌∷◌, ◌++◌, codes, length}
+use Rattle.std.proofs.Common.{Option, Some, None, option_to_list, ap, ◌∙◌, append_assoc, refl, arith}
 use Rattle.std.specs.Prelude.{◌==◌, not, if◌then◌else◌, cond}
 use Rattle.std.specs.List.{filter, flat_map, range_with_len}
 use Rattle.byte_columns.specs.declared.column.Column.{Column}
@@ -27,7 +28,7 @@ own-count : (log : PairLog) (columns : List Column) → counted (Only log) colum
 own-count log [] = refl
 own-count log (here ∷ later) = in-front (byte_of log here) here (counted (Only log) later) (filter (has_byte_of log) later) (own-count log later)
 
-counted-own : (sides : ShownLogs) (columns : List Column) → counted sides columns ≡ own_columns sides columns
+counted-own : (shown : ShownLogs) (columns : List Column) → counted shown columns ≡ own_columns shown columns
 counted-own Both columns = all-count columns
 counted-own (Only log) columns = own-count log columns
 
@@ -52,7 +53,7 @@ both-parts log [] = omega arith
 both-parts log (here ∷ later) =
     one-of-both (has_byte_of log here) here (filter (has_byte_of log) later) (filter (lacks_byte_of log) later) (length later) (both-parts log later)
 
-others-are : (sides : ShownLogs) (columns : List Column) → uncounted sides columns ≡ length (other_columns sides columns)
+others-are : (shown : ShownLogs) (columns : List Column) → uncounted shown columns ≡ length (other_columns shown columns)
 others-are Both columns = let all = ap (λ (l : List Column). length l) (all-count columns) in omega (arith, all)
 others-are (Only log) columns = let own = ap (λ (l : List Column). length l) (own-count log columns) in omega (arith, own, both-parts log columns)
 
@@ -61,27 +62,27 @@ others-are (Only log) columns = let own = ap (λ (l : List Column). length l) (o
 apart : (a b c d e : List ℕ) → a ++ b ++ c ++ d ++ e ≡ (a ++ b ++ c) ++ (d ++ e)
 apart a b c d e = simp append_assoc
 
-module _ (sides : ShownLogs) (lettered : Bool) (columns : List Column) (first count : ℕ) where
+module _ (shown : ShownLogs) (lettered : Bool) (columns : List Column) (first count : ℕ) where
   abbrev folded_columns : List Column
   folded_columns = columns_from columns first count
 
   abbrev own_lines : List ℕ
-  own_lines = flat_map (line_text sides lettered columns) (range_with_len first count)
+  own_lines = flat_map (line_text shown lettered columns) (range_with_len first count)
 
-  counts-told : fold_text sides folded_columns ≡ fold_told sides folded_columns
+  counts-told : fold_text shown folded_columns ≡ fold_told shown folded_columns
   counts-told =
-      (λ i. fold_words sides (length (counted-own sides folded_columns i)) (differing (counted-own sides folded_columns i)) (others-are sides folded_columns i))
+      (λ i. fold_words shown (length (counted-own shown folded_columns i)) (differing (counted-own shown folded_columns i)) (others-are shown folded_columns i))
 
-  fold-tells : stretch_text sides lettered columns (Folded first count)
-      ≡ (codes "<details><summary>" ++ fold_told sides folded_columns ++ codes "</summary>") ++ (own_lines ++ codes "</details>")
+  fold-tells : stretch_text shown lettered columns (Folded first count)
+      ≡ (codes "<details><summary>" ++ fold_told shown folded_columns ++ codes "</summary>") ++ (own_lines ++ codes "</details>")
   fold-tells =
       ap (λ (told : List ℕ). codes "<details><summary>" ++ told ++ codes "</summary>" ++ own_lines ++ codes "</details>") counts-told
-      ∙ apart (codes "<details><summary>") (fold_told sides folded_columns) (codes "</summary>") own_lines (codes "</details>")
+      ∙ apart (codes "<details><summary>") (fold_told shown folded_columns) (codes "</summary>") own_lines (codes "</details>")
 
 pub each_byte_is_counted : EachByteIsCounted
 each_byte_is_counted columns = (
-  λ sides. counted-own sides columns,
+  λ shown. counted-own shown columns,
   λ log. as-many log columns,
-  λ sides lettered first count. (own_lines sides lettered columns first count ++ codes "</details>", fold-tells sides lettered columns first count),
-  λ sides. (λ i. hidden_words sides (length (counted-own sides columns i)) (differing (counted-own sides columns i)) (others-are sides columns i)),
+  λ shown lettered first count. (own_lines shown lettered columns first count ++ codes "</details>", fold-tells shown lettered columns first count),
+  λ shown. (λ i. hidden_words shown (length (counted-own shown columns i)) (differing (counted-own shown columns i)) (others-are shown columns i)),
 )

@@ -1,5 +1,6 @@
 -- The columns that count, one after another, and those of lines.
-use Rattle.std.proofs.Common.{◌≡◌, ℕ, zero, suc, ◌+◌, ◌-◌, ◌*◌, ◌≤◌, ◌<◌, Bool, true, false, List, [], ◌∷◌, ◌++◌, length, take, drop, min, Some, ap, sym, ◌∙◌, arith, inl, inr}
+use Rattle.std.proofs.Common.{◌≡◌, ℕ, zero, suc, ◌+◌, ◌-◌, ◌*◌, ◌≤◌, ◌<◌, Bool, true, false, List, []}
+use Rattle.std.proofs.Common.{◌∷◌, ◌++◌, length, take, drop, min, Some, ap, sym, ◌∙◌, arith, inl, inr}
 use Rattle.std.specs.Prelude.{slice_get, if◌then◌else◌}
 use Rattle.std.proofs.lemmas.Bool.{cases_lt}
 use Rattle.std.proofs.lemmas.List.{drop_all, length-drop, length-take, take_all}
@@ -21,22 +22,22 @@ module _ (here : Column) (later : List Column) where
   differing-if true = omega arith
   differing-if false = omega arith
 
-module _ (sides : ShownLogs) (columns : List Column) (to : ℕ) where
+module _ (shown : ShownLogs) (columns : List Column) (to : ℕ) where
   module _ (at : ℕ) (here : Column) (below : at < to) (there : slice_get columns at ≡ Some here) where
-    pub length-first : length (counted sides (take (to - at) (drop at columns)))
-        ≡ length (counted sides (here ∷ [])) + length (counted sides (take (to - (at + 1)) (drop (at + 1) columns)))
+    pub length-first : length (counted shown (take (to - at) (drop at columns)))
+        ≡ length (counted shown (here ∷ [])) + length (counted shown (take (to - (at + 1)) (drop (at + 1) columns)))
     length-first =
-        ap (λ (l : List Column). length (counted sides l)) (cut-first columns at to here below there)
-        ∙ length-if here (counted sides (take (to - (at + 1)) (drop (at + 1) columns))) (is_counted sides here)
+        ap (λ (l : List Column). length (counted shown l)) (cut-first columns at to here below there)
+        ∙ length-if here (counted shown (take (to - (at + 1)) (drop (at + 1) columns))) (is_counted shown here)
 
-    pub differing-first : differing (counted sides (take (to - at) (drop at columns)))
-        ≡ differing (counted sides (here ∷ [])) + differing (counted sides (take (to - (at + 1)) (drop (at + 1) columns)))
+    pub differing-first : differing (counted shown (take (to - at) (drop at columns)))
+        ≡ differing (counted shown (here ∷ [])) + differing (counted shown (take (to - (at + 1)) (drop (at + 1) columns)))
     differing-first =
-        ap (λ (l : List Column). differing (counted sides l)) (cut-first columns at to here below there)
-        ∙ differing-if here (counted sides (take (to - (at + 1)) (drop (at + 1) columns))) (is_counted sides here)
+        ap (λ (l : List Column). differing (counted shown l)) (cut-first columns at to here below there)
+        ∙ differing-if here (counted shown (take (to - (at + 1)) (drop (at + 1) columns))) (is_counted shown here)
 
-  pub none-left : (at : ℕ) → to ≤ at → counted sides (take (to - at) (drop at columns)) ≡ []
-  none-left at over = ap (counted sides) (cut-none columns at to over)
+  pub none-left : (at : ℕ) → to ≤ at → counted shown (take (to - at) (drop at columns)) ≡ []
+  none-left at over = ap (counted shown) (cut-none columns at to over)
 
 -- Lines.
 

@@ -1,10 +1,11 @@
 -- A line of columns, as one log has it.
-use Rattle.std.proofs.Common.{◌≡◌, ℕ, zero, suc, ◌+◌, ◌-◌, ◌*◌, ◌≤◌, ◌<◌, Bool, List, [], ◌∷◌, ◌++◌, codes, length, take, drop, arith, ap, sym, ◌∙◌, append_assoc, refl, option_to_list}
+use Rattle.std.proofs.Common.{◌≡◌, ℕ, zero, suc, ◌+◌, ◌-◌, ◌*◌, ◌≤◌, ◌<◌, Bool, List, [], ◌∷◌, ◌++◌, codes}
+use Rattle.std.proofs.Common.{length, take, drop, arith, ap, sym, ◌∙◌, append_assoc, refl, option_to_list}
 use Rattle.std.proofs.lemmas.Grind.{flat_map-append}
 use Rattle.std.proofs.lemmas.List.{drop-take, length-append, length-take, take-append-drop, take-take}
 use Rattle.byte_columns.specs.declared.column.Column.{Column}
 use Rattle.byte_columns.specs.Lines.{line, line_count}
-use Rattle.pair_words.specs.declared.column_words.Whose.{Whose}
+use Rattle.pair_words.specs.declared.column_words.LineOwner.{LineOwner}
 use Rattle.pair_words.specs.declared.log.PairLog.{PairLog}
 use Rattle.pair_words.specs.ColumnLines.{bytes_in, cells, cells_text, grey_columns, letters_if, number_if, whose_text}
 use Rattle.pair_words.specs.Logs.{byte_of}
@@ -46,7 +47,7 @@ module _ (columns : List Column) (number from to : ℕ) (below : number < line_c
       ∙ length-append (bytes_in log (take from columns)) (bytes_in log (line columns number))
 
 -- What a log has in a line, by the bytes that it has there.
-module _ (lettered : Bool) (whose : Whose) (log : PairLog) (number : List ℕ) (columns : List Column) where
+module _ (lettered : Bool) (whose : LineOwner) (log : PairLog) (number : List ℕ) (columns : List Column) where
   abbrev pub side_by : List ℕ → List ℕ
   side_by bytes =
       codes "<p><i>" ++ number_if number bytes ++ codes "</i> " ++ whose_text whose ++ codes "<code>"

@@ -1,12 +1,13 @@
 -- What stands in a line is what its logs have there.
-use Rattle.std.proofs.Common.{◌≡◌, ℕ, ◌+◌, Bool, true, false, not, List, [], ◌∷◌, ◌++◌, codes, Option, Some, None, option_to_list, ap, ap₂, ◌∙◌, append_assoc, arith, refl}
+use Rattle.std.proofs.Common.{◌≡◌, ℕ, ◌+◌, Bool, true, false, not, List, [], ◌∷◌, ◌++◌, codes, Option}
+use Rattle.std.proofs.Common.{Some, None, option_to_list, ap, ap₂, ◌∙◌, append_assoc, arith, refl}
 use Rattle.std.specs.Prelude.{if◌then◌else◌}
 use Rattle.std.proofs.lemmas.Bool.{eqb-true, ltb-false}
 use Rattle.byte_columns.specs.declared.column.Column.{Column}
 use Rattle.byte_columns.specs.Columns.{differing, is_same_byte}
 use Rattle.byte_columns.specs.Lines.{line, line_count, line_differs}
-use Rattle.pair_words.specs.declared.column_words.Whose.{Whose}
-use Rattle.pair_words.specs.declared.column_words.Whose.TheVariants.{Of, OfBoth, Untold}
+use Rattle.pair_words.specs.declared.column_words.LineOwner.{LineOwner}
+use Rattle.pair_words.specs.declared.column_words.LineOwner.TheVariants.{Of, OfBoth, Untold}
 use Rattle.pair_words.specs.declared.log.PairLog.{PairLog}
 use Rattle.pair_words.specs.declared.log.PairLog.TheVariants.{A, B}
 use Rattle.pair_words.specs.ColumnLines.{bytes_before, bytes_in, cells_text, letters_if, line_of, number_if, number_text, whose_text}
@@ -44,7 +45,7 @@ in-parts a b c who d cells e letters f = simp append_assoc
 two-parts : (a one b c other d : List ℕ) → (a ++ (one ++ b)) ++ (c ++ (other ++ d)) ≡ a ++ ((one ++ ((b ++ c) ++ other)) ++ d)
 two-parts a one b c other d = simp append_assoc
 
-module _ (lettered : Bool) (whose : Whose) (log : PairLog) (columns : List Column) (number : ℕ) where
+module _ (lettered : Bool) (whose : LineOwner) (log : PairLog) (columns : List Column) (number : ℕ) where
   abbrev here : List Column
   here = line columns number
 

@@ -12,7 +12,8 @@ use Rattle.pair_words.specs.declared.log.PairLog.{PairLog}
 use Rattle.pair_words.specs.declared.log.PairLog.TheVariants.{A, B}
 use Rattle.pair_words.specs.Logs.{letter}
 
--- what rules made of a message at a place: whether the byte there is masked, and whether the message is cut off behind it
+-- what rules made of a message at a place: whether the byte there is masked, and whether the message is cut off behind
+-- it
 abbrev pub marks_at : List RuleValue → List ℕ → ℕ → ByteMarks
 marks_at rules bytes place = record { is_masked = mark_at rules bytes place; is_cut_behind = cut_behind rules bytes place }
 
@@ -29,8 +30,8 @@ first_words_by left_marks right_marks place (Some here) =
     codes " byte " ++ decimal (place + 1) ++ codes ": " ++ byte_name left_marks here.left ++ codes " in A, "
     ++ byte_name right_marks here.right ++ codes " in B"
 
--- the first column of two messages that differs: up to there both have the same bytes, so the bytes that they have there
--- stand at that place of each
+-- the first column of two messages that differs: up to there both have the same bytes, so the bytes that they have
+-- there stand at that place of each
 abbrev pub first_words : List RuleValue → List ℕ → List ℕ → ℕ → Option Column → List ℕ
 first_words rules xs ys place here = first_words_by (marks_at rules xs place) (marks_at rules ys place) place here
 
@@ -80,7 +81,8 @@ abbrev pub alone_words : List RuleValue → PairLog → ℕ → ℕ → List ℕ
 alone_words rules log count place bytes =
     alone_where log count place ++ codes "<b>" ++ piece_text rules bytes place (min count told_alone) ++ codes "</b>" ++ untold_words count
 
--- a message has bytes that the other one, which is shorter, has not; and else they are the same, where so many columns differ
+-- a message has bytes that the other one, which is shorter, has not; and else they are the same, where so many columns
+-- differ
 abbrev pub has_alone : List ℕ → List ℕ → ℕ → Bool
 has_alone own other count = nat_lt (length other) (length own) && count == length own - length other
 

@@ -1,5 +1,5 @@
--- What holds of two messages byte under byte on a page, whatever they are: what a line has of each, which of its bytes have marks, and
--- what is told of lines that are folded or not shown.
+-- What holds of two messages byte under byte on a page, whatever they are: what a line has of each, which of its bytes
+-- have marks, and what is told of lines that are folded or not shown.
 use Prim.Native.Char.{code}
 use Rattle.std.specs.Prelude.{◌≡◌, ◌==◌, ℕ, Bool, true, false, not, List, [], ◌∷◌, ◌++◌, codes, length, option_to_list, ◌&&◌, map, if◌then◌else◌}
 use Rattle.std.specs.List.{filter, flat_map}
@@ -11,8 +11,8 @@ use Rattle.pair_words.specs.declared.log.PairLog.{PairLog}
 use Rattle.pair_words.specs.declared.log.PairLog.TheVariants.{A, B}
 use Rattle.pair_words.specs.declared.column_lines.ShownLogs.{ShownLogs}
 use Rattle.pair_words.specs.declared.column_lines.ShownLogs.TheVariants.{Both, Only}
-use Rattle.pair_words.specs.declared.column_words.Whose.{Whose}
-use Rattle.pair_words.specs.declared.column_words.Whose.TheVariants.{Of, OfBoth, Untold}
+use Rattle.pair_words.specs.declared.column_words.LineOwner.{LineOwner}
+use Rattle.pair_words.specs.declared.column_words.LineOwner.TheVariants.{Of, OfBoth, Untold}
 use Rattle.pair_words.specs.ColumnLines.{bytes_in, cells, counted, fold_words, hidden_text, hidden_words, line_text, stretch_text, whose_text, byte_or_gap}
 use Rattle.pair_words.specs.Logs.{byte_of, letter}
 
@@ -20,7 +20,8 @@ use Rattle.pair_words.specs.Logs.{byte_of, letter}
 abbrev pub has_byte_of : PairLog → Column → Bool
 has_byte_of log here = length (option_to_list (byte_of log here)) == 1
 
--- the columns that count in a fold, and in what is not shown: of both logs each, of one alone each in which it has a byte
+-- the columns that count in a fold, and in what is not shown: of both logs each, of one alone each in which it has a
+-- byte
 abbrev pub own_columns : ShownLogs → List Column → List Column
 own_columns Both columns = columns
 own_columns (Only log) columns = filter (has_byte_of log) columns
@@ -36,22 +37,22 @@ other_columns (Only log) columns = filter (lacks_byte_of log) columns
 
 -- how many columns of a fold count, how many of these differ, and how many don't count, in words
 abbrev pub fold_told : ShownLogs → List Column → List ℕ
-fold_told sides columns = fold_words sides (length (own_columns sides columns)) (differing (own_columns sides columns)) (length (other_columns sides columns))
+fold_told shown columns = fold_words shown (length (own_columns shown columns)) (differing (own_columns shown columns)) (length (other_columns shown columns))
 
 -- the same of columns that are not shown
 abbrev pub hidden_told : ShownLogs → List Column → List ℕ
-hidden_told sides columns = hidden_words sides (length (own_columns sides columns)) (differing (own_columns sides columns)) (length (other_columns sides columns))
+hidden_told shown columns = hidden_words shown (length (own_columns shown columns)) (differing (own_columns shown columns)) (length (other_columns shown columns))
 
--- Of lines that are folded, and of what is not shown, each column counts where they are of both logs; where they are of one
--- alone, as many as it has bytes there. How many these are, how many of them differ, and how many are bytes of the other log
--- alone, is told: a fold begins with it.
+-- Of lines that are folded, and of what is not shown, each column counts where they are of both logs; where they are of
+-- one alone, as many as it has bytes there. How many these are, how many of them differ, and how many are bytes of the
+-- other log alone, is told: a fold begins with it.
 abbrev pub EachByteIsCounted : Type 0
 EachByteIsCounted = (columns : List Column)
-    → ((sides : ShownLogs) → counted sides columns ≡ own_columns sides columns)
+    → ((shown : ShownLogs) → counted shown columns ≡ own_columns shown columns)
     × ((log : PairLog) → length (own_columns (Only log) columns) ≡ length (bytes_in log columns))
-    × ((sides : ShownLogs) (lettered : Bool) (first count : ℕ) → (behind : List ℕ) × (stretch_text sides lettered columns (Folded first count)
-    ≡ (codes "<details><summary>" ++ fold_told sides (columns_from columns first count) ++ codes "</summary>") ++ behind))
-    × ((sides : ShownLogs) → hidden_text sides columns ≡ hidden_told sides columns)
+    × ((shown : ShownLogs) (lettered : Bool) (first count : ℕ) → (behind : List ℕ) × (stretch_text shown lettered columns (Folded first count)
+    ≡ (codes "<details><summary>" ++ fold_told shown (columns_from columns first count) ++ codes "</summary>") ++ behind))
+    × ((shown : ShownLogs) → hidden_text shown columns ≡ hidden_told shown columns)
 
 -- what is to be seen of a log in a line, where it has these bytes there: its columns, or that it has none
 abbrev pub own_cells : List ℕ → PairLog → List Column → List ℕ
@@ -59,7 +60,7 @@ own_cells [] log here = codes "<mark>no byte</mark>"
 own_cells (byte ∷ bytes) log here = cells log here
 
 -- this, behind whose line it is
-abbrev pub own_line : Whose → PairLog → List Column → List ℕ
+abbrev pub own_line : LineOwner → PairLog → List Column → List ℕ
 own_line whose log here = whose_text whose ++ codes "<code>" ++ own_cells (bytes_in log here) log here ++ codes "</code>"
 
 -- something stands in a text
@@ -86,8 +87,8 @@ pub record SeenLetter : Type 0 where
 abbrev pub seen_letter : Bool → ℕ → SeenLetter
 seen_letter marked byte = record { letter = byte; is_marked = marked }
 
--- What a reader sees of a text, where a mark is open or none is, and outside of a tag or within one: a tag opens a mark, or
--- with a stroke closes it. Blanks only stand between.
+-- What a reader sees of a text, where a mark is open or none is, and outside of a tag or within one: a tag opens a
+-- mark, or with a stroke closes it. Blanks only stand between.
 abbrev pub seen_from : Bool → Bool → List ℕ → List SeenLetter
 seen_from marked within [] = []
 seen_from marked true (b ∷ rest) = seen_from (marked && not (b == code "/")) (not (b == code ">")) rest
@@ -104,6 +105,7 @@ seen_in text = seen_from false false text
 abbrev pub seen_of : PairLog → Column → List SeenLetter
 seen_of log here = map (seen_letter (column_differs here)) (byte_or_gap (byte_of log here))
 
--- each column of a line that differs has a mark, and no other has; without the marks what stands there is what the log has
+-- each column of a line that differs has a mark, and no other has; without the marks what stands there is what the log
+-- has
 abbrev pub MarksAreOfColumnsThatDiffer : Type 0
 MarksAreOfColumnsThatDiffer = (log : PairLog) (columns : List Column) → seen_in (cells log columns) ≡ flat_map (seen_of log) columns

@@ -11,7 +11,8 @@ civil_text time =
     digits.decimal 4 time.date.year ++ codes "-" ++ digits.decimal 2 time.date.month ++ codes "-" ++ digits.decimal 2 time.date.day ++ codes "&#160;"
     ++ digits.decimal 2 time.hour ++ codes ":" ++ digits.decimal 2 time.minute ++ codes ":" ++ digits.decimal 2 time.second ++ codes "&#160;UTC"
 
--- the stamp of a log is told with its date from March 1973 up to the year 9999: a log that counts from power-on has less
+-- the stamp of a log is told with its date from March 1973 up to the year 9999: a log that counts from power-on has
+-- less
 abbrev pub has_date : ℕ → Bool
 has_date micros = nat_le 100000000 (micros / 1000000) && nat_lt (micros / 1000000) 253402300800
 

@@ -1,9 +1,9 @@
 pub mod Logs
-pub mod LongNames
-pub mod DifferenceNames
 pub mod ColumnLines
 pub mod ByteWords
-pub mod ChartWords
+pub mod LongNames
 pub mod Dates
+pub mod DifferenceNames
+pub mod ChartWords
 pub mod ColumnLaws
 pub mod ByteLaws

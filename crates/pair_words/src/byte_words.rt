@@ -1,19 +1,18 @@
 //! How two messages differ, in words.
+
 ghost use Rattle.std.specs.Prelude.{◌≡◌, slice_get};
 ghost use Rattle.byte_columns.specs.Columns.{differing};
 ghost use Rattle.pair_words.specs.ByteWords as Spec;
 
+use crate::alone_words::AloneWords;
 use crate::lengths::say_lengths;
 use crate::log::PairLog;
 use byte_columns::{ByteColumns, Column};
-use shown_bytes::{Piece, is_cut_behind, is_masked_at};
+use shown_bytes::{is_cut_behind, is_masked_at};
 use text_parts::{Either, Part, When, say};
 use trace_io::TextSink;
 use trace_text::{Byte, Number, Ordinal};
 use uds_rules::Rules;
-
-/// So many bytes that one message has alone are told.
-const TOLD: usize = 8;
 
 /// How two messages differ.
 #[derive(Clone, Copy)]
@@ -74,7 +73,7 @@ fn say_where<S: TextSink>(
             right_marks: marks_at(rules, right, place),
             here,
         };
-        say(out, (first, OthersWords(count)));
+        say(out, (first, MoreColumns(count)));
     }
 }
 
@@ -93,92 +92,6 @@ fn has_alone(own: &[u8], other: &[u8], count: usize) -> bool
     other.len() < own.len() && count == own.len() - other.len()
 }
 
-/// So many bytes that one log has alone, from a place of its message on.
-#[derive(Clone, Copy)]
-struct AloneWords<'a> {
-    rules: &'a Rules,
-    log: PairLog,
-    count: usize,
-    place: usize,
-    bytes: &'a [u8],
-}
-
-impl<'a> Part for AloneWords<'a> {
-    ghost use Rattle.pair_words.specs.ByteWords.{alone_words};
-
-    ghost text = { λ words. alone_words words.rules.now words.log words.count words.place words.bytes.now };
-
-    fn say<S: TextSink>(self, out: &mut S) {
-        let AloneWords {
-            rules,
-            log,
-            count,
-            place,
-            bytes,
-        } = self;
-        say(
-            out,
-            (
-                AloneWhere { log, count, place },
-                "<b>",
-                Piece {
-                    rules,
-                    message: bytes,
-                    place,
-                    count: count.min(TOLD),
-                },
-                "</b>",
-                UntoldWords(count),
-            ),
-        );
-    }
-}
-
-/// Where so many bytes stand that one log has alone, from a place of its message on.
-#[derive(Clone, Copy)]
-struct AloneWhere {
-    log: PairLog,
-    count: usize,
-    place: usize,
-}
-
-impl Part for AloneWhere {
-    ghost use Rattle.pair_words.specs.ByteWords.{alone_where};
-
-    ghost text = { λ words. alone_where words.log words.count words.place };
-
-    fn say<S: TextSink>(self, out: &mut S) {
-        let AloneWhere { log, count, place } = self;
-        let one = (": byte ", Ordinal(place), " only in ", log, ": ");
-        let several = (
-            ": ",
-            Number(count as u64),
-            " bytes only in ",
-            log,
-            ", from byte ",
-            Ordinal(place),
-            " on: ",
-        );
-        say(out, Either(count == 1, one, several));
-    }
-}
-
-/// How many of so many bytes are not told, if some are not.
-#[derive(Clone, Copy)]
-struct UntoldWords(usize);
-
-impl Part for UntoldWords {
-    ghost use Rattle.pair_words.specs.ByteWords.{untold_words};
-
-    ghost text = { λ t. untold_words t.0 };
-
-    fn say<S: TextSink>(self, out: &mut S) {
-        if self.0 > TOLD {
-            say(out, (" and ", Number((self.0 - TOLD) as u64), " more"));
-        }
-    }
-}
-
 /// The column at a place, if there is one.
 fn column_at(columns: &ByteColumns<'_>, place: usize) -> Option<Column>
     ensures { result ≡ slice_get columns.now place }
@@ -190,7 +103,8 @@ fn column_at(columns: &ByteColumns<'_>, place: usize) -> Option<Column>
     }
 }
 
-/// What rules made of a message at a place: whether the byte there is masked, and whether the message is cut off behind it.
+/// What rules made of a message at a place: whether the byte there is masked, and whether the message is cut off behind
+/// it.
 #[derive(Clone, Copy)]
 struct ByteMarks {
     is_masked: bool,
@@ -267,9 +181,9 @@ impl Part for ByteName {
 
 /// How many more columns differ, where so many do.
 #[derive(Clone, Copy)]
-struct OthersWords(usize);
+struct MoreColumns(usize);
 
-impl Part for OthersWords {
+impl Part for MoreColumns {
     ghost use Rattle.pair_words.specs.ByteWords.{others_words};
 
     ghost text = { λ words. others_words words.0 };

@@ -1,4 +1,5 @@
 //! What stands around the rows of a chart: its head, its bodies, the ends of its rows, and its own.
+
 use text_parts::{Either, Part, When, say};
 use trace_io::TextSink;
 use trace_text::Number;

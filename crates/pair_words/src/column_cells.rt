@@ -1,10 +1,13 @@
 //! A line of columns, as one log has it.
+
 ghost use Rattle.std.specs.Prelude.{◌≡◌, ◌-◌, ◌≤◌, ◌<◌, length, take, drop};
 ghost use Rattle.byte_columns.specs.Lines.{line, line_count};
 ghost use Rattle.pair_words.specs.ColumnLines.{bytes_in, cells, cells_behind, column_letters, grey_columns, letter_or_gap, line_of};
 ghost use Rattle.pair_words.specs.Logs as Spec;
 
-use crate::column_words::{ByteOrGap, FirstNumber, LineNumber, MarkEnd, MarkStart, Whose};
+use crate::column_words::{
+    ByteOrGap, FirstNumber, LineNumber, LineOwner, MarkEnd, MarkStart, MarkStep,
+};
 use crate::log::{PairLog, other_log};
 use byte_columns::{ByteColumns, Column};
 use shown_bytes::shown_byte;
@@ -21,14 +24,14 @@ pub(crate) struct ColumnLine<'a> {
 /// Says a line, as one log has it, behind the number of its first byte and whose it is; with its letters,
 /// where the messages may be text.
 pub(crate) fn say_line_of<S: TextSink>(
-    lettered: bool,
-    whose: Whose,
+    with_letters: bool,
+    whose: LineOwner,
     log: PairLog,
     line: ColumnLine<'_>,
     out: &mut S,
 )
     requires { line.number < line_count line.columns.now }
-    ensures { S.says out.old (line_of lettered whose log line.entry.columns.now line.entry.number) out.new }
+    ensures { S.says out.old (line_of with_letters whose log line.entry.columns.now line.entry.number) out.new }
 {
     let ColumnLine { columns, number } = line;
     let range = columns.line_range(number);
@@ -61,7 +64,7 @@ pub(crate) fn say_line_of<S: TextSink>(
         };
         say_cells(own, out);
         say(out, "</code>");
-        say_letters_if(lettered, own, out);
+        say_letters_if(with_letters, own, out);
         say(out, "</p>");
     }
 }
@@ -104,10 +107,10 @@ fn say_cells<S: TextSink>(own: OwnColumns<'_>, out: &mut S)
         say(
             out,
             (
-                MarkStart {
+                MarkStart(MarkStep {
                     marked: false,
                     differs,
-                },
+                }),
                 ByteOrGap(byte_of(log, column)),
             ),
         );
@@ -137,12 +140,13 @@ fn say_cells_behind<S: TextSink>(own: OwnColumns<'_>, marked: bool, out: &mut S)
     'columns: for at in from..to {
         let column = columns.column(at);
         let differs = column.differs();
+        let step = MarkStep { marked, differs };
         say(
             out,
             (
-                MarkEnd { marked, differs },
+                MarkEnd(step),
                 " ",
-                MarkStart { marked, differs },
+                MarkStart(step),
                 ByteOrGap(byte_of(log, column)),
             ),
         );
@@ -150,20 +154,20 @@ fn say_cells_behind<S: TextSink>(own: OwnColumns<'_>, marked: bool, out: &mut S)
     }
     say(
         out,
-        MarkEnd {
+        MarkEnd(MarkStep {
             marked,
             differs: false,
-        },
+        }),
     );
 }
 
 /// Says its letters there in grey, where the messages may be text.
-fn say_letters_if<S: TextSink>(lettered: bool, own: OwnColumns<'_>, out: &mut S)
+fn say_letters_if<S: TextSink>(with_letters: bool, own: OwnColumns<'_>, out: &mut S)
     requires forward { own.from ≤ own.to }
     requires inside { own.to ≤ length own.columns.now }
-    ensures { S.says out.old (grey_columns lettered own.entry.log (take (own.entry.to - own.entry.from) (drop own.entry.from own.entry.columns.now))) out.new }
+    ensures { S.says out.old (grey_columns with_letters own.entry.log (take (own.entry.to - own.entry.from) (drop own.entry.from own.entry.columns.now))) out.new }
 {
-    if lettered {
+    if with_letters {
         say(out, " <samp>");
         say_letters(own, out);
         say(out, "</samp>");

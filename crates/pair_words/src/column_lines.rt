@@ -1,4 +1,5 @@
 //! Two messages byte under byte, in lines of sixteen columns.
+
 ghost use Rattle.std.specs.Prelude.{◌≡◌, ◌+◌, ◌||◌, ◌≤◌, ◌<◌};
 ghost use Rattle.std.specs.List.{flat_map, range_with_len};
 ghost use Rattle.pair_words.specs.declared.column_lines.ShownLogs.TheVariants.{Both};
@@ -10,7 +11,8 @@ ghost use Rattle.pair_words.specs.ColumnLines.{line_text, lines_text, stretch_te
 
 use crate::column_cells::{ColumnLine, say_line_of};
 use crate::column_counts::{counts_from, hidden_counts};
-use crate::column_words::{FoldWords, Hidden, Whose};
+use crate::column_words::LineOwner;
+use crate::hidden_words::{FoldWords, HiddenWords};
 use crate::log::PairLog;
 use byte_columns::{ByteColumns, Stretch};
 use shown_bytes::has_word;
@@ -28,16 +30,16 @@ pub enum ShownLogs {
 
 /// Says two messages byte under byte: each line with its letters, where they may be text.
 pub fn say_columns<S: TextSink>(
-    sides: ShownLogs,
-    lettered: bool,
+    shown: ShownLogs,
+    with_letters: bool,
     columns: &ByteColumns<'_>,
     out: &mut S,
 )
-    ensures { S.says out.old (lines_text sides lettered columns.now) out.new }
+    ensures { S.says out.old (lines_text shown with_letters columns.now) out.new }
 {
     say(out, "<div class=\"hx\">");
-    say_stretches(sides, lettered, columns, out);
-    say(out, Hidden(sides, hidden_counts(sides, columns)));
+    say_stretches(shown, with_letters, columns, out);
+    say(out, HiddenWords(shown, hidden_counts(shown, columns)));
     say(out, "</div>");
 }
 
@@ -50,38 +52,38 @@ pub fn have_word(one: &[u8], other: &[u8]) -> bool
 
 /// Says all lines, shown or folded.
 fn say_stretches<S: TextSink>(
-    sides: ShownLogs,
-    lettered: bool,
+    shown: ShownLogs,
+    with_letters: bool,
     columns: &ByteColumns<'_>,
     out: &mut S,
 )
-    ensures { S.says out.old (flat_map (stretch_text sides lettered columns.now) (stretches columns.now)) out.new }
+    ensures { S.says out.old (flat_map (stretch_text shown with_letters columns.now) (stretches columns.now)) out.new }
 {
     'lines: for stretch in columns.stretches() {
-        say_stretch(sides, lettered, columns, stretch, out);
+        say_stretch(shown, with_letters, columns, stretch, out);
     }
 }
 
 /// Says a line that is shown, or those that are folded together.
 fn say_stretch<S: TextSink>(
-    sides: ShownLogs,
-    lettered: bool,
+    shown: ShownLogs,
+    with_letters: bool,
     columns: &ByteColumns<'_>,
     stretch: Stretch,
     out: &mut S,
 )
     requires { IsOfOneKind columns.now stretch }
-    ensures { S.says out.old (stretch_text sides lettered columns.now stretch) out.new }
+    ensures { S.says out.old (stretch_text shown with_letters columns.now stretch) out.new }
 {
     match stretch {
-        Stretch::Shown(number) => say_line(sides, lettered, columns, number, out),
+        Stretch::Shown(number) => say_line(shown, with_letters, columns, number, out),
         Stretch::Folded { first, count } => {
             let fold = LineRange {
                 columns: &*columns,
                 first,
                 count,
             };
-            say_fold(sides, lettered, fold, out);
+            say_fold(shown, with_letters, fold, out);
         }
     }
 }
@@ -95,26 +97,26 @@ struct LineRange<'a> {
 }
 
 /// Says lines that are folded together.
-fn say_fold<S: TextSink>(sides: ShownLogs, lettered: bool, fold: LineRange<'_>, out: &mut S)
+fn say_fold<S: TextSink>(shown: ShownLogs, with_letters: bool, fold: LineRange<'_>, out: &mut S)
     requires { fold.first + fold.count ≤ line_count fold.columns.now }
-    ensures { S.says out.old (stretch_text sides lettered fold.entry.columns.now (Folded fold.entry.first fold.entry.count)) out.new }
+    ensures { S.says out.old (stretch_text shown with_letters fold.entry.columns.now (Folded fold.entry.first fold.entry.count)) out.new }
 {
     let LineRange {
         columns,
         first,
         count,
     } = fold;
-    let counts = counts_from(sides, columns, first, count);
-    let told = FoldWords(sides, counts);
+    let counts = counts_from(shown, columns, first, count);
+    let told = FoldWords(shown, counts);
     say(out, ("<details><summary>", told, "</summary>"));
-    say_lines(sides, lettered, fold, out);
+    say_lines(shown, with_letters, fold, out);
     say(out, "</details>");
 }
 
 /// Says lines, one after another.
-fn say_lines<S: TextSink>(sides: ShownLogs, lettered: bool, fold: LineRange<'_>, out: &mut S)
+fn say_lines<S: TextSink>(shown: ShownLogs, with_letters: bool, fold: LineRange<'_>, out: &mut S)
     requires { fold.first + fold.count ≤ line_count fold.columns.now }
-    ensures { S.says out.old (flat_map (line_text sides lettered fold.entry.columns.now) (range_with_len fold.entry.first fold.entry.count)) out.new }
+    ensures { S.says out.old (flat_map (line_text shown with_letters fold.entry.columns.now) (range_with_len fold.entry.first fold.entry.count)) out.new }
 {
     let LineRange {
         columns,
@@ -122,45 +124,57 @@ fn say_lines<S: TextSink>(sides: ShownLogs, lettered: bool, fold: LineRange<'_>,
         count,
     } = fold;
     'lines: for at in first..first + count {
-        say_line(sides, lettered, columns, at, out);
+        say_line(shown, with_letters, columns, at, out);
     }
 }
 
 /// Says a line.
 fn say_line<S: TextSink>(
-    sides: ShownLogs,
-    lettered: bool,
+    shown: ShownLogs,
+    with_letters: bool,
     columns: &ByteColumns<'_>,
     number: usize,
     out: &mut S,
 )
     requires { number < line_count columns.now }
-    ensures { S.says out.old (line_text sides lettered columns.now number) out.new }
+    ensures { S.says out.old (line_text shown with_letters columns.now number) out.new }
 {
-    match sides {
+    match shown {
         ShownLogs::Only(log) => {
             let line = ColumnLine { columns, number };
-            say_line_of(lettered, Whose::Untold, log, line, out);
+            say_line_of(with_letters, LineOwner::Untold, log, line, out);
         }
-        ShownLogs::Both => say_line_of_both(lettered, columns, number, out),
+        ShownLogs::Both => say_line_of_both(with_letters, columns, number, out),
     }
 }
 
 /// Says a line of both logs: twice, where it differs.
 fn say_line_of_both<S: TextSink>(
-    lettered: bool,
+    with_letters: bool,
     columns: &ByteColumns<'_>,
     number: usize,
     out: &mut S,
 )
     requires { number < line_count columns.now }
-    ensures { S.says out.old (line_text Both lettered columns.now number) out.new }
+    ensures { S.says out.old (line_text Both with_letters columns.now number) out.new }
 {
     let line = ColumnLine { columns, number };
     if columns.differing_in(number) > 0 {
-        say_line_of(lettered, Whose::Of(PairLog::A), PairLog::A, line, out);
-        say_line_of(lettered, Whose::Of(PairLog::B), PairLog::B, line, out);
+        say_line_of(
+            with_letters,
+            LineOwner::Of(PairLog::A),
+            PairLog::A,
+            line,
+            out,
+        );
+        say_line_of(
+            with_letters,
+            LineOwner::Of(PairLog::B),
+            PairLog::B,
+            line,
+            out,
+        );
     } else {
-        say_line_of(lettered, Whose::OfBoth, PairLog::A, line, out);
+        say_line_of(with_letters, LineOwner::OfBoth, PairLog::A, line, out);
     }
 }

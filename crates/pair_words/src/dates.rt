@@ -1,4 +1,5 @@
 //! When a log was.
+
 ghost use Rattle.std.specs.Prelude.{◌≡◌, ◌+◌, ◌%◌};
 ghost use Rattle.can_log.specs.Digits.{decimal};
 
@@ -7,7 +8,13 @@ use text_parts::{Part, say};
 use trace_io::TextSink;
 use trace_text::Stamp;
 
-/// A stamp, with its date where it is one.
+/// So many seconds after 1970, in March 1973, stamps begin that have a date: a log that counts from power-on has less.
+const FIRST_DATE: u64 = 100_000_000;
+
+/// So many seconds after 1970 the year 10000 begins.
+const YEAR_10000: u64 = 253_402_300_800;
+
+/// A stamp, with its date where the stamp counts from 1970.
 #[derive(Clone, Copy)]
 pub struct Moment(pub u64);
 
@@ -18,12 +25,12 @@ impl Part for Moment {
 
     fn say<S: TextSink>(self, out: &mut S) {
         let seconds = self.0 / 1_000_000;
-        if 100_000_000 <= seconds && seconds < 253_402_300_800 {
+        if FIRST_DATE <= seconds && seconds < YEAR_10000 {
             say(
                 out,
                 (
                     "<span class=\"nw\">",
-                    Civil(civil_time(seconds)),
+                    CivilDate(civil_time(seconds)),
                     "</span> <i>(",
                     Stamp(self.0),
                     ")</i>",
@@ -37,9 +44,9 @@ impl Part for Moment {
 
 /// A time of a day, by the calendar.
 #[derive(Clone, Copy)]
-struct Civil(CivilTime);
+struct CivilDate(CivilTime);
 
-impl Part for Civil {
+impl Part for CivilDate {
     ghost use Rattle.pair_words.specs.Dates.{civil_text};
 
     ghost text = { λ time. civil_text time.0 };
@@ -85,7 +92,7 @@ impl Part for TwoDigits {
     }
 }
 
-/// The last four.
+/// The last four digits of a number.
 #[derive(Clone, Copy)]
 struct FourDigits(u64);
 
@@ -106,7 +113,7 @@ fn two_digits(number: u64) -> [u8; 2]
     [digit(number / 10), digit(number)]
 }
 
-/// The last four.
+/// The last four decimal digits.
 fn four_digits(number: u64) -> [u8; 4]
     ensures { result ≡ decimal 4 number }
 {
@@ -118,7 +125,7 @@ fn four_digits(number: u64) -> [u8; 4]
     ]
 }
 
-/// The last one.
+/// The last decimal digit.
 fn digit(number: u64) -> u8
     ensures { result ≡ 48 + number % 10 }
 {

@@ -1,4 +1,5 @@
 //! The names by which links lead to differences.
+
 use text_parts::{Part, say};
 use trace_io::TextSink;
 use trace_text::Number;

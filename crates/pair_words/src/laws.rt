@@ -1,4 +1,5 @@
 //! What holds of two messages on a page, whatever they are. A law is its contract; a call does nothing.
+
 ghost use Rattle.pair_words.specs.ColumnLaws.{EachByteIsCounted, EachLogHasItsLine, MarksAreOfColumnsThatDiffer};
 ghost use Rattle.pair_words.specs.ByteLaws.{AloneBytesArePutIn};
 

@@ -1,4 +1,5 @@
 //! How long two messages were that differ, in words.
+
 ghost use Rattle.pair_words.specs.ByteWords.{lengths_words};
 
 use shown_bytes::known_length;

@@ -1,5 +1,5 @@
-//! Two messages beside each other, as a page of two logs has them: byte under byte, with a mark at each byte that differs,
-//! or how they differ in words. So are the other words of that page that know no session.
+//! Two messages beside each other, as a page of two logs has them: byte under byte, with a mark at each byte that
+//! differs, or how they differ in words. So are the other words of that page that know no session.
 //!
 //! [`say_columns`] says both in the lines of `byte_columns`, of both logs or of one; [`ByteWords`] are a sentence:
 //!
@@ -11,8 +11,8 @@
 //! | Part | Files | Definitions |
 //! |---|---|---|
 //! | the two logs, by their letters | `log` | `Logs` |
-//! | two messages byte under byte | `column_cells`, `column_counts`, `column_words`, `column_lines` | `ColumnLines` |
-//! | how two messages differ, in a sentence | `byte_words`, `lengths` | `ByteWords` |
+//! | two messages byte under byte | `column_cells`, `column_counts`, `column_words`, `hidden_words`, `column_lines` | `ColumnLines` |
+//! | how two messages differ, in a sentence | `byte_words`, `alone_words`, `lengths` | `ByteWords` |
 //! | long names, which may be parted | `long_names` | `LongNames` |
 //! | when a log was | `dates` | `Dates` |
 //! | what links to differences name | `difference_names` | `DifferenceNames` |
@@ -20,6 +20,7 @@
 //! | what holds of two messages on each page | [`laws`] | `ColumnLaws`, `ByteLaws` |
 #![tactic(auto)]
 
+mod alone_words;
 mod byte_words;
 mod chart_words;
 mod column_cells;
@@ -28,6 +29,7 @@ mod column_lines;
 mod column_words;
 mod dates;
 mod difference_names;
+mod hidden_words;
 pub mod laws;
 mod lengths;
 mod log;

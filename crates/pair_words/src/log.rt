@@ -1,4 +1,5 @@
 //! The two logs of a page.
+
 ghost use Rattle.std.specs.Prelude.{◌≡◌, ◌≤◌};
 ghost use Rattle.pair_words.specs.Logs as Spec;
 

@@ -1,4 +1,5 @@
 //! Long names, which a narrow screen may part.
+
 ghost use Rattle.std.specs.Prelude.{◌≡◌};
 ghost use Rattle.pair_words.specs.LongNames.{letter_behind, parted_name};
 ghost use Rattle.pair_words.specs.LongNames as Spec;

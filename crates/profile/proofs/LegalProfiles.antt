@@ -6,9 +6,10 @@ use Rattle.profile.specs.Profile.{ProfileValue, both, unless}
 use Rattle.profile.specs.ProfileRules.{profile_rules}
 use Rattle.profile.specs.Units.{UnitValue, profile_units}
 use Rattle.profile.specs.Wrong.{WrongValue}
-use Rattle.profile.specs.Laws.{ProfileHasLegalRules, ProfileHasLegalUnits, RulesAreInOrder}
+use Rattle.profile.specs.Laws.{ProfileHasLegalRules, ProfileHasLegalUnits, RulesAreInOrder, UnitsAreInOrder}
 use Rattle.profile.proofs.OrderedRules.{rules_legal, rules_ordered}
 use Rattle.profile.proofs.LegalUnits.{units_legal}
+use Rattle.profile.proofs.FirstWrong.{units_ordered}
 
 -- the rules and units of a profile that is read, or others
 abbrev rules_or : List RuleValue → Result ProfileValue WrongValue → List RuleValue
@@ -41,3 +42,8 @@ pub rules_are_in_order : RulesAreInOrder
 rules_are_in_order document profile is =
     let parts = parts_are (wrong_keys document) (profile_rules document) (profile_units document) profile is in
     rules_ordered document profile.rules parts.0 parts.1
+
+pub units_are_in_order : UnitsAreInOrder
+units_are_in_order document profile is =
+    let parts = parts_are (wrong_keys document) (profile_rules document) (profile_units document) profile is in
+    units_ordered document profile.units parts.2

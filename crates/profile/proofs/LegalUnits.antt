@@ -1,6 +1,6 @@
 -- The units of a profile: legal ones, no two of which are one.
-use Rattle.std.proofs.Common.{◌≡◌, ℕ, ◌+◌, ◌≤◌, ◌&&◌, ◌==◌, Bool, true, false, List, [], ◌∷◌, ◌++◌, length, codes, nat_lt, ltb-false, Option, Some, None, option_map, Result, Ok, Err, inl, inr, refl, ap, sym, ◌∙◌, subst, arith}
-use Rattle.std.specs.Prelude.{◌≢◌, bytes_eq, option_and_then}
+use Rattle.std.proofs.Common.{◌≡◌, ℕ, ◌+◌, ◌≤◌, ◌&&◌, ◌==◌, Bool, true, false, List, [], ◌∷◌, ◌++◌, length, codes, nat_le, nat_lt, ltb-false, Option, Some, None, option_map, Result, Ok, Err, inl, inr, refl, ap, sym, ◌∙◌, subst, arith}
+use Rattle.std.specs.Prelude.{◌≢◌, ◌||◌, bytes_eq, option_and_then}
 use Rattle.std.specs.List.{AllByRecursion}
 use Rattle.std.proofs.lemmas.Bool.{cases_Bool, eq-eqb, false≢true}
 use Rattle.std.proofs.lemmas.List.{length-append}
@@ -9,11 +9,11 @@ use Rattle.std.proofs.lemmas.Slice.Eq.{bytes_eq-Decides}
 use Rattle.can_log.specs.declared.frame.Id.{Id}
 use Rattle.can_log.specs.declared.frame.Id.TheVariants as id
 use Rattle.toml.specs.Data.{Data, Items, no_items, item, Members, as_str, as_table, get_member}
-use Rattle.profile.specs.Laws.{IsUnit, AreTwo, AreToldApart, AreUnits}
+use Rattle.profile.specs.Laws.{IsApart, IsUnit, AreTwo, AreToldApart, AreUnits}
 use Rattle.profile.specs.ProfileRules.{items_at, item_count}
 use Rattle.profile.specs.UnitKeys.{identifier_of, is_of_bus, is_name, wrong_name, wrong_spelled, wrong_identifier, wrong_unit_key, wrong_unit_keys}
 use Rattle.profile.specs.UnitWrong.{UnitWrongValue, same_name, same_pair}
-use Rattle.profile.specs.Units.{UnitValue, is_same_identifier, text_at, identifier_at, unit_of, unless_wrong, unit_in, place_of_name, place_of_pair, wrong_beside, unless_beside, unit_behind, table_behind, units_behind, profile_units}
+use Rattle.profile.specs.Units.{UnitValue, is_same_identifier, is_of_side, text_at, identifier_at, unit_of, unless_wrong, unit_said, number_of_name, number_of_pair, wrong_beside, unless_beside, unit_behind, table_behind, units_behind, profile_units}
 use Rattle.profile.specs.Wrong.{WrongValue}
 use Rattle.profile.specs.declared.unit_wrong.UnitKey.{UnitKey}
 use Rattle.profile.specs.declared.unit_wrong.UnitKey.TheVariants as unit_key
@@ -79,21 +79,36 @@ abbrev unit_or : UnitValue → Result UnitValue UnitWrongValue → UnitValue
 unit_or other (Ok one) = one
 unit_or other (Err wrong) = other
 
-parts_are : (name : Option (List ℕ)) (tester unit : Option Id) (one : UnitValue) → unit_of name tester unit ≡ Ok one
-    → (name ≡ Some one.name) × (tester ≡ Some one.tester) × (unit ≡ Some one.unit) × (is_same_identifier one.tester one.unit ≡ false)
-parts_are None tester unit one is = absurd (cc is)
-parts_are (Some name) None unit one is = absurd (cc is)
-parts_are (Some name) (Some tester) None one is = absurd (cc is)
-parts_are (Some name) (Some tester) (Some unit) one is =
+-- what is known of the parts of a unit
+record ArePartsOf (name : Option (List ℕ)) (tester unit functional : Option Id) (one : UnitValue) : Type 0 where
+  name_is : name ≡ Some one.name
+  tester_is : tester ≡ Some one.tester
+  unit_is : unit ≡ Some one.unit
+  functional_is : functional ≡ one.functional
+  two : is_same_identifier one.tester one.unit ≡ false
+  apart : is_of_side one.functional one.tester one.unit ≡ false
+
+parts_are : (name : Option (List ℕ)) (tester unit functional : Option Id) (one : UnitValue) → unit_of name tester unit functional ≡ Ok one
+    → ArePartsOf name tester unit functional one
+parts_are None tester unit functional one is = absurd (cc is)
+parts_are (Some name) None unit functional one is = absurd (cc is)
+parts_are (Some name) (Some tester) None functional one is = absurd (cc is)
+parts_are (Some name) (Some tester) (Some unit) functional one is =
     elim (cases_Bool (is_same_identifier tester unit)) [
       | inl same ↦ absurd (not_one _ one (rw same at is))
-      | inr two ↦
-          (let whole = ap (unit_or one) (rw two at is) in (
-            ap (λ one. Some one.name) whole,
-            ap (λ one. Some one.tester) whole,
-            ap (λ one. Some one.unit) whole,
-            ap (λ one. is_same_identifier one.tester one.unit) (sym whole) ∙ two,
-          ))
+      | inr two ↦ elim (cases_Bool (is_of_side functional tester unit)) [
+        | inl same ↦ absurd (not_one _ one (rw (two, same) at is))
+        | inr apart ↦
+            (let whole = ap (unit_or one) (rw (two, apart) at is) in
+            record {
+              name_is = ap (λ one. Some one.name) whole;
+              tester_is = ap (λ one. Some one.tester) whole;
+              unit_is = ap (λ one. Some one.unit) whole;
+              functional_is = ap (λ one. one.functional) whole;
+              two = ap (λ one. is_same_identifier one.tester one.unit) (sym whole) ∙ two;
+              apart = ap (λ one. is_of_side one.functional one.tester one.unit) (sym whole) ∙ apart;
+            })
+      ]
     ] where
       not_one : (wrong : UnitWrongValue) (one : UnitValue) → Err wrong ≡ Ok one → ⊥
       not_one wrong one is = cc is
@@ -102,15 +117,31 @@ unless_is : (wrong : Option UnitWrongValue) (read : Result UnitValue UnitWrongVa
 unless_is None read one is = (refl, is)
 unless_is (Some wrong) read one is = absurd (cc is)
 
-unit_legal : (table : Members) (one : UnitValue) → unit_in table ≡ Ok one → IsUnit one
+neither : (a b : Bool) → (a || b) ≡ false → (a ≡ false) × (b ≡ false)
+neither true b is = absurd (cc is)
+neither false b is = (refl, is)
+
+is_apart : (table : Members) (tester unit : Id) (functional : Option Id) → wrong_unit_keys table ≡ None → identifier_at (codes "functional") table ≡ functional
+    → is_of_side functional tester unit ≡ false → IsApart tester unit functional
+is_apart table tester unit None none is apart = tt
+is_apart table tester unit (Some functional) none is apart =
+    let both = neither (is_same_identifier functional tester) (is_same_identifier functional unit) apart in (
+      bus_at unit_key.Functional (codes "functional") table functional (λ value. refl) none is,
+      two_identifiers functional tester both.0,
+      two_identifiers functional unit both.1,
+    )
+
+pub unit_legal : (table : Members) (one : UnitValue) → unit_said table ≡ Ok one → IsUnit one
 unit_legal table one is =
     let read = unless_is (wrong_unit_keys table) _ one is in
-    let parts = parts_are (text_at (codes "name") table) (identifier_at (codes "tester") table) (identifier_at (codes "unit") table) one read.1 in
+    let parts = parts_are (text_at (codes "name") table) (identifier_at (codes "tester") table) (identifier_at (codes "unit") table)
+    (identifier_at (codes "functional") table) one read.1 in
     record {
-      name = name_at table one.name read.0 parts.0;
-      tester = bus_at unit_key.Tester (codes "tester") table one.tester (λ value. refl) read.0 parts.1;
-      unit = bus_at unit_key.Unit (codes "unit") table one.unit (λ value. refl) read.0 parts.2;
-      two = two_identifiers one.tester one.unit parts.3;
+      name = name_at table one.name read.0 parts.name_is;
+      tester = bus_at unit_key.Tester (codes "tester") table one.tester (λ value. refl) read.0 parts.tester_is;
+      unit = bus_at unit_key.Unit (codes "unit") table one.unit (λ value. refl) read.0 parts.unit_is;
+      two = two_identifiers one.tester one.unit parts.two;
+      functional = is_apart table one.tester one.unit one.functional read.0 parts.functional_is parts.apart;
     }
 
 -- ---- units beside one another
@@ -119,18 +150,18 @@ none_behind_first : (place : Option ℕ) → option_map (λ (n : ℕ). n + 1) pl
 none_behind_first None is = refl
 none_behind_first (Some n) is = absurd (none-some _ (sym is))
 
-pub other_names : (units : List UnitValue) (name : List ℕ) → place_of_name units name ≡ None → AllByRecursion (λ one. one.name ≢ name) units
+pub other_names : (units : List UnitValue) (name : List ℕ) → number_of_name units name ≡ None → AllByRecursion (λ one. one.name ≢ name) units
 other_names [] name none = tt
 other_names (one ∷ units) name none =
     elim (cases_Bool (bytes_eq one.name name)) [
       | inl same ↦ absurd (none-some _ (sym (rw same at none)))
       | inr other ↦ (
         λ is. false≢true (sym other ∙ (bytes_eq-Decides one.name name).1 is),
-        other_names units name (none_behind_first (place_of_name units name) (rw other at none)),
+        other_names units name (none_behind_first (number_of_name units name) (rw other at none)),
       )
     ]
 
-other_pairs : (units : List UnitValue) (tester unit : Id) → place_of_pair units tester unit ≡ None
+other_pairs : (units : List UnitValue) (tester unit : Id) → number_of_pair units tester unit ≡ None
     → AllByRecursion (λ one. (one.tester ≡ tester) × (one.unit ≡ unit) → ⊥) units
 other_pairs [] tester unit none = tt
 other_pairs (one ∷ units) tester unit none =
@@ -138,7 +169,7 @@ other_pairs (one ∷ units) tester unit none =
       | inl same ↦ absurd (none-some _ (sym (rw same at none)))
       | inr other ↦ (
         λ is. false≢true (sym other ∙ both_same one.tester tester one.unit unit is.0 is.1),
-        other_pairs units tester unit (none_behind_first (place_of_pair units tester unit) (rw other at none)),
+        other_pairs units tester unit (none_behind_first (number_of_pair units tester unit) (rw other at none)),
       )
     ] where
       both_same : (a b c d : Id) → a ≡ b → c ≡ d → (is_same_identifier a b && is_same_identifier c d) ≡ true
@@ -153,17 +184,17 @@ none_mapped : {A B : Type 0} (f : A → B) (found : Option A) → option_map f f
 none_mapped f None is = refl
 none_mapped f (Some a) is = absurd (none-some _ (sym is))
 
-beside : (units : List UnitValue) (one : UnitValue) → wrong_beside units one ≡ None → AllByRecursion (λ other. AreTwo other one) units
+pub beside : (units : List UnitValue) (one : UnitValue) → wrong_beside units one ≡ None → AllByRecursion (λ other. AreTwo other one) units
 beside units one none =
-    let parts = both_none (option_map same_name (place_of_name units one.name)) (option_map same_pair (place_of_pair units one.tester one.unit)) none in
+    let parts = both_none (option_map same_name (number_of_name units one.name)) (option_map same_pair (number_of_pair units one.tester one.unit)) none in
     each_other units one (other_names units one.name (none_mapped same_name _ parts.0))
     (other_pairs units one.tester one.unit (none_mapped same_pair _ parts.1))
 
-all_behind : (P : UnitValue → Type 0) (units : List UnitValue) (one : UnitValue) → AllByRecursion P units → P one → AllByRecursion P (units ++ one ∷ [])
+pub all_behind : (P : UnitValue → Type 0) (units : List UnitValue) (one : UnitValue) → AllByRecursion P units → P one → AllByRecursion P (units ++ one ∷ [])
 all_behind P [] one all is = (is, tt)
 all_behind P (other ∷ units) one all is = (all.0, all_behind P units one all.1 is)
 
-apart_behind : (units : List UnitValue) (one : UnitValue) → AreToldApart units → AllByRecursion (λ other. AreTwo other one) units → AreToldApart (units ++ one ∷ [])
+pub apart_behind : (units : List UnitValue) (one : UnitValue) → AreToldApart units → AllByRecursion (λ other. AreTwo other one) units → AreToldApart (units ++ one ∷ [])
 apart_behind [] one apart two = (tt, tt)
 apart_behind (other ∷ units) one apart two = (all_behind (AreTwo other) units one apart.0 two.0, apart_behind units one apart.1 two.1)
 
@@ -187,12 +218,15 @@ one_more : (earlier units : List UnitValue) (one : UnitValue) (wrong : Option Un
     → unless_beside wrong earlier one ≡ Ok units → AreMore earlier units 1
 one_more earlier units one (Some wrong) are legal of_beside is = absurd (not_read _ units is)
 one_more earlier units one None are legal of_beside is =
-    subst (λ units. AreMore earlier units 1) (ap (read_or units) is) (record {
-      most = (let more = length-append earlier (one ∷ []) in omega (arith, more));
-      legal = record { each = all_behind IsUnit earlier one are.each legal; apart = apart_behind earlier one are.apart (beside earlier one of_beside) };
-    })
+    elim (cases_Bool (nat_le 64 (length earlier))) [
+      | inl many ↦ absurd (not_read _ units (rw many at is))
+      | inr few ↦ subst (λ units. AreMore earlier units 1) (ap (read_or units) (rw few at is)) (record {
+        most = (let more = length-append earlier (one ∷ []) in omega (arith, more));
+        legal = record { each = all_behind IsUnit earlier one are.each legal; apart = apart_behind earlier one are.apart (beside earlier one of_beside) };
+      })
+    ]
 
-read_legal : (table : Members) (earlier units : List UnitValue) (read : Result UnitValue UnitWrongValue) → AreLegal earlier → unit_in table ≡ read
+read_legal : (table : Members) (earlier units : List UnitValue) (read : Result UnitValue UnitWrongValue) → AreLegal earlier → unit_said table ≡ read
     → unit_behind earlier read ≡ Ok units → AreMore earlier units 1
 read_legal table earlier units (Err wrong) are of_table is = absurd (not_read _ units is)
 read_legal table earlier units (Ok one) are of_table is =
@@ -200,7 +234,7 @@ read_legal table earlier units (Ok one) are of_table is =
 
 table_legal : (table : Option Members) (earlier units : List UnitValue) → AreLegal earlier → table_behind table (Ok earlier) ≡ Ok units → AreMore earlier units 1
 table_legal None earlier units are is = no_more earlier units 1 are (ap (read_or units) is)
-table_legal (Some table) earlier units are is = read_legal table earlier units (unit_in table) are refl is
+table_legal (Some table) earlier units are is = read_legal table earlier units (unit_said table) are refl is
 
 -- where all of an array is read, what stands before it was
 read_before : (rest : Items) (before : Result (List UnitValue) WrongValue) (units : List UnitValue) → units_behind rest before ≡ Ok units

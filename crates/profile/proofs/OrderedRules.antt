@@ -28,12 +28,12 @@ not_read wrong rules is = cc is
 
 -- ---- one rule behind others
 
-can_be_added : (earlier : List RuleValue) (rule : RuleValue) (rules : List RuleValue) (clash : Option ℕ) → clash_in earlier rule.prefix ≡ clash
+pub can_be_added : (earlier : List RuleValue) (rule : RuleValue) (rules : List RuleValue) (clash : Option ℕ) → clash_in earlier rule.prefix ≡ clash
     → length earlier < 64 → unless_shared clash earlier rule ≡ Ok rules → CanAdd earlier rule × (rules ≡ earlier ++ rule ∷ [])
 can_be_added earlier rule rules None apart few is = (record { few = few; apart = apart }, sym (ap (read_or rules) is))
 can_be_added earlier rule rules (Some place) apart few is = absurd (not_read _ rules is)
 
-rule_added : (earlier : List RuleValue) (rule : RuleValue) (rules : List RuleValue) → rule_behind earlier rule ≡ Ok rules
+pub rule_added : (earlier : List RuleValue) (rule : RuleValue) (rules : List RuleValue) → rule_behind earlier rule ≡ Ok rules
     → CanAdd earlier rule × (rules ≡ earlier ++ rule ∷ [])
 rule_added earlier rule rules is =
     elim (cases_Bool (nat_le 64 (length earlier))) [
@@ -49,7 +49,7 @@ read_before key rest (Err wrong) rules is = absurd (not_read wrong rules (sym (s
 
 -- ---- legal ones
 
-spelled_is : (key : RuleKey) (text : List ℕ) (rule : RuleValue) → rule_in key text ≡ Ok rule → IsRule rule
+pub spelled_is : (key : RuleKey) (text : List ℕ) (rule : RuleValue) → rule_in key text ≡ Ok rule → IsRule rule
 spelled_is rule_key.Drop text rule is = spelled_drop_is_rule text rule is
 spelled_is rule_key.Mask text rule is = spelled_mask_is_rule text rule is
 
@@ -64,7 +64,7 @@ item_legal : (key : RuleKey) (text : Option (List ℕ)) (earlier rules : List Ru
 item_legal key None earlier rules are is = subst AreRules (ap (read_or rules) is) are
 item_legal key (Some text) earlier rules are is = one_legal key text earlier rules (rule_in key text) are refl is
 
-items_legal : (key : RuleKey) (items : Items) (earlier rules : List RuleValue) → AreRules earlier → items_behind key items (Ok earlier) ≡ Ok rules → AreRules rules
+pub items_legal : (key : RuleKey) (items : Items) (earlier rules : List RuleValue) → AreRules earlier → items_behind key items (Ok earlier) ≡ Ok rules → AreRules rules
 items_legal key no_items earlier rules are is = subst AreRules (ap (read_or rules) is) are
 items_legal key (item element rest) earlier rules are is =
     let one = read_before key rest (item_behind key (as_str element) (Ok earlier)) rules is in
@@ -73,25 +73,25 @@ items_legal key (item element rest) earlier rules are is =
 -- ---- in order
 
 -- texts, each of which spells a rule
-record AreRight (key : RuleKey) (items : Items) : Type 0 where
-  strings : are_strings items ≡ true
-  each : first_bad key items ≡ None
+pub record AreRight (key : RuleKey) (items : Items) : Type 0 where
+  pub strings : are_strings items ≡ true
+  pub each : first_bad key items ≡ None
 
 text_spelled : (key : RuleKey) (text : List ℕ) (earlier : List RuleValue) (read : Result RuleValue RuleFault) → rule_in key text ≡ read → fault_of key text read ≡ None
     → (rule : RuleValue) × (spelled_in key (Some text) ≡ Some rule) × (item_behind key (Some text) (Ok earlier) ≡ rule_behind earlier rule)
 text_spelled key text earlier (Ok rule) of_text right = (rule, rw of_text refl, rw of_text refl)
 text_spelled key text earlier (Err fault) of_text right = absurd (none-some _ (sym right))
 
-one_spelled : (key : RuleKey) (text : Option (List ℕ)) (earlier : List RuleValue) → is_some text ≡ true → bad_item key text ≡ None
+pub one_spelled : (key : RuleKey) (text : Option (List ℕ)) (earlier : List RuleValue) → is_some text ≡ true → bad_item key text ≡ None
     → (rule : RuleValue) × (spelled_in key text ≡ Some rule) × (item_behind key text (Ok earlier) ≡ rule_behind earlier rule)
 one_spelled key None earlier some right = absurd (false≢true some)
 one_spelled key (Some text) earlier some right = text_spelled key text earlier (rule_in key text) refl right
 
-some_behind : (earlier : List RuleValue) (rule : RuleValue) (rest : List (Option RuleValue)) → map Some (earlier ++ rule ∷ []) ++ rest ≡ map Some earlier ++ Some rule ∷ rest
+pub some_behind : (earlier : List RuleValue) (rule : RuleValue) (rest : List (Option RuleValue)) → map Some (earlier ++ rule ∷ []) ++ rest ≡ map Some earlier ++ Some rule ∷ rest
 some_behind [] rule rest = refl
 some_behind (one ∷ earlier) rule rest = ap (λ l. Some one ∷ l) (some_behind earlier rule rest)
 
-items_spelled : (key : RuleKey) (items : Items) (earlier rules : List RuleValue) → are_strings items ≡ true → first_bad key items ≡ None
+pub items_spelled : (key : RuleKey) (items : Items) (earlier rules : List RuleValue) → are_strings items ≡ true → first_bad key items ≡ None
     → items_behind key items (Ok earlier) ≡ Ok rules → map Some rules ≡ map Some earlier ++ each_spelled key items
 items_spelled key no_items earlier rules strings each is = ap (map Some) (sym (ap (read_or rules) is)) ∙ sym (append-nil (map Some earlier))
 items_spelled key (item element rest) earlier rules strings each is =
@@ -114,7 +114,7 @@ right_rules key (Some items) is =
     ]
 
 -- what stands at a key of rules
-rules_at : (key : RuleKey) (name : List ℕ) (document : Members) → ((value : Data) → wrong_key name value ≡ wrong_rules key (as_array value))
+pub rules_at : (key : RuleKey) (name : List ℕ) (document : Members) → ((value : Data) → wrong_key name value ≡ wrong_rules key (as_array value))
     → wrong_keys document ≡ None → AreRight key (items_at name document)
 rules_at key name document named none = by_value (get_member name document) refl where
   by_value : (found : Option Data) → get_member name document ≡ found → AreRight key (items_or_none (option_and_then as_array found))

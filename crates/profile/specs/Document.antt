@@ -4,6 +4,7 @@ use Rattle.std.specs.Str.{IsUtf8}
 use Rattle.std.specs.BTreeMap.{BTreeMap}
 use Rattle.std.specs.Prelude.{String}
 use Rattle.std.specs.declared.alloc.Global.{Global}
+use Rattle.toml.specs.Errors.{IsBlank}
 use Rattle.toml.specs.Parse.{parse_document}
 use Rattle.toml.specs.View.{table_view}
 use Rattle.toml.specs.declared.value.Value.{Value}
@@ -23,10 +24,11 @@ place_behind line column (byte ∷ rest) =
 abbrev pub IsPlaceIn : List ℕ → ℕ × ℕ → Type 0
 IsPlaceIn text place = (count : ℕ) × (count ≤ length text) × (place ≡ place_behind 1 1 (take count text))
 
--- The document that a text is, or why it is none. Where memory is refused nothing is said.
+-- The document that a text is, or why it is none. Memory is refused only to a text that is not too long and has more than
+-- white space and comments.
 abbrev pub IsDocument : List ℕ → Result (BTreeMap (String Global) Value) DocumentFault → Type 0
 IsDocument text (Ok table) = (length text ≤ 65536) × IsUtf8 text × (parse_document text ≡ Some (table_view table))
-IsDocument text (Err fault.Memory) = Unit {0}
+IsDocument text (Err fault.Memory) = (length text ≤ 65536) × (IsBlank text → ⊥)
 IsDocument text (Err fault.TooLong) = 65536 < length text
 IsDocument text (Err (fault.NotToml line column)) =
     (length text ≤ 65536) × (IsUtf8 text → parse_document text ≡ None) × IsPlaceIn text (line, column)

@@ -61,5 +61,5 @@ abbrev pub element_at : ℕ → Items → Items → Option Data
 element_at place drops masks = if nat_lt place (item_count drops) then get_item place drops else get_item (place - item_count drops) masks
 
 -- the text of the rule at a place
-abbrev pub rule_text : ℕ → Members → Option (List ℕ)
-rule_text place document = option_and_then as_str (element_at place (items_at (codes "drop") document) (items_at (codes "mask") document))
+abbrev pub written_rule : ℕ → Members → Option (List ℕ)
+written_rule place document = option_and_then as_str (element_at place (items_at (codes "drop") document) (items_at (codes "mask") document))

@@ -53,6 +53,7 @@ wrong_unit_key key value =
     if bytes_eq key (codes "name") then wrong_name (as_str value)
     else if bytes_eq key (codes "tester") then wrong_identifier unit_key.Tester (as_str value)
     else if bytes_eq key (codes "unit") then wrong_identifier unit_key.Unit (as_str value)
+    else if bytes_eq key (codes "functional") then wrong_identifier unit_key.Functional (as_str value)
     else Some (unknown_key key)
 
 -- the first key, by its bytes, with which something is wrong

@@ -4,7 +4,7 @@ use Rattle.profile.specs.declared.unit_wrong.UnitKey.{UnitKey}
 use Rattle.profile.specs.declared.unit_wrong.UnitWrong.{UnitWrong}
 use Rattle.profile.specs.declared.unit_wrong.UnitWrong.TheVariants as wrong
 
--- what is wrong, by bytes
+-- what is wrong, by bytes; other units by their numbers, from 1
 pub data UnitWrongValue : Type 0 where
   unknown_key : List ℕ → UnitWrongValue
   not_a_name : UnitWrongValue
@@ -12,6 +12,7 @@ pub data UnitWrongValue : Type 0 where
   out_of_range : UnitKey → UnitWrongValue
   missing : UnitKey → UnitWrongValue
   same_identifier : UnitWrongValue
+  same_functional : UnitWrongValue
   same_name : ℕ → UnitWrongValue
   same_pair : ℕ → UnitWrongValue
 
@@ -23,5 +24,6 @@ unit_wrong_value (wrong.NoIdentifier key) = no_identifier key
 unit_wrong_value (wrong.OutOfRange key) = out_of_range key
 unit_wrong_value (wrong.Missing key) = missing key
 unit_wrong_value wrong.SameIdentifier = same_identifier
-unit_wrong_value (wrong.SameName place) = same_name place
-unit_wrong_value (wrong.SamePair place) = same_pair place
+unit_wrong_value wrong.SameFunctional = same_functional
+unit_wrong_value (wrong.SameName number) = same_name number
+unit_wrong_value (wrong.SamePair number) = same_pair number

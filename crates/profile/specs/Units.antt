@@ -1,20 +1,22 @@
 -- The units of a profile, in their order.
-use Rattle.std.specs.Prelude.{ℕ, ◌+◌, ◌&&◌, ◌==◌, nat_lt, Bool, false, List, [], ◌∷◌, ◌++◌, codes, bytes_eq, length, Option, Some, None, option_map, option_and_then, Result, Ok, Err, if◌then◌else◌}
+use Rattle.std.specs.Prelude.{ℕ, ◌+◌, ◌&&◌, ◌||◌, ◌==◌, nat_le, nat_lt, Bool, false, List, [], ◌∷◌, ◌++◌, codes, bytes_eq, length, Option, Some, None, option_map, option_and_then, Result, Ok, Err, if◌then◌else◌}
 use Rattle.std.specs.Option.{option_or}
 use Rattle.toml.specs.Data.{Items, no_items, item, Members, as_str, as_table, get_member}
 use Rattle.can_log.specs.declared.frame.Id.{Id}
 use Rattle.can_log.specs.declared.frame.Id.TheVariants as id
 use Rattle.profile.specs.Wrong.{WrongValue, many_units, in_unit}
-use Rattle.profile.specs.UnitWrong.{UnitWrongValue, missing, same_identifier, same_name, same_pair}
+use Rattle.profile.specs.UnitWrong.{UnitWrongValue, missing, same_identifier, same_functional, same_name, same_pair}
 use Rattle.profile.specs.UnitKeys.{identifier_of, wrong_unit_keys}
 use Rattle.profile.specs.ProfileRules.{items_at, item_count}
 use Rattle.profile.specs.declared.unit_wrong.UnitKey.TheVariants as unit_key
 
--- A unit of a bench: its name, and the identifiers of the tester that asks it and of its own.
+-- A unit of a bench: its name, the identifiers of the tester that asks it and of its own, and that on which the tester asks
+-- all units, if it does.
 pub record UnitValue : Type 0 where
   pub name : List ℕ
   pub tester : Id
   pub unit : Id
+  pub functional : Option Id
 
 -- one format and one number
 abbrev pub is_same_identifier : Id → Id → Bool
@@ -31,14 +33,20 @@ text_at key table = option_and_then as_str (get_member key table)
 abbrev pub identifier_at : List ℕ → Members → Option Id
 identifier_at key table = option_and_then identifier_of (text_at key table)
 
--- a unit of these parts, or what is missing of it, or that both identifiers are one
-abbrev pub unit_of : Option (List ℕ) → Option Id → Option Id → Result UnitValue UnitWrongValue
-unit_of None tester unit = Err (missing unit_key.Name)
-unit_of (Some name) None unit = Err (missing unit_key.Tester)
-unit_of (Some name) (Some tester) None = Err (missing unit_key.Unit)
-unit_of (Some name) (Some tester) (Some unit) =
+-- there is an identifier of functional requests, and it is one of the two
+abbrev pub is_of_side : Option Id → Id → Id → Bool
+is_of_side None tester unit = false
+is_of_side (Some functional) tester unit = is_same_identifier functional tester || is_same_identifier functional unit
+
+-- a unit of these parts, or what is missing of it, or that two of its identifiers are one
+abbrev pub unit_of : Option (List ℕ) → Option Id → Option Id → Option Id → Result UnitValue UnitWrongValue
+unit_of None tester unit functional = Err (missing unit_key.Name)
+unit_of (Some name) None unit functional = Err (missing unit_key.Tester)
+unit_of (Some name) (Some tester) None functional = Err (missing unit_key.Unit)
+unit_of (Some name) (Some tester) (Some unit) functional =
     if is_same_identifier tester unit then Err same_identifier
-    else Ok (record { name = name; tester = tester; unit = unit })
+    else if is_of_side functional tester unit then Err same_functional
+    else Ok (record { name = name; tester = tester; unit = unit; functional = functional })
 
 -- what a table says of a unit of which this is wrong
 abbrev pub unless_wrong : Option UnitWrongValue → Result UnitValue UnitWrongValue → Result UnitValue UnitWrongValue
@@ -46,43 +54,44 @@ unless_wrong None unit = unit
 unless_wrong (Some wrong) unit = Err wrong
 
 -- the unit that a table says, or what is wrong with it by itself
-abbrev pub unit_in : Members → Result UnitValue UnitWrongValue
-unit_in table =
+abbrev pub unit_said : Members → Result UnitValue UnitWrongValue
+unit_said table =
     unless_wrong (wrong_unit_keys table)
-    (unit_of (text_at (codes "name") table) (identifier_at (codes "tester") table) (identifier_at (codes "unit") table))
+    (unit_of (text_at (codes "name") table) (identifier_at (codes "tester") table) (identifier_at (codes "unit") table)
+    (identifier_at (codes "functional") table))
 
--- the place of the first unit of this name, if there is one
-abbrev pub place_of_name : List UnitValue → List ℕ → Option ℕ
-place_of_name [] name = None
-place_of_name (one ∷ units) name = if bytes_eq one.name name then Some 0 else option_map (λ place. place + 1) (place_of_name units name)
+-- the number, from 1, of the first unit of this name, if there is one
+abbrev pub number_of_name : List UnitValue → List ℕ → Option ℕ
+number_of_name [] name = None
+number_of_name (one ∷ units) name = if bytes_eq one.name name then Some 1 else option_map (λ number. number + 1) (number_of_name units name)
 
--- the place of the first unit of these identifiers, if there is one
-abbrev pub place_of_pair : List UnitValue → Id → Id → Option ℕ
-place_of_pair [] tester unit = None
-place_of_pair (one ∷ units) tester unit =
-    if is_same_identifier one.tester tester && is_same_identifier one.unit unit then Some 0
-    else option_map (λ place. place + 1) (place_of_pair units tester unit)
+-- the number of the first unit of these identifiers, if there is one
+abbrev pub number_of_pair : List UnitValue → Id → Id → Option ℕ
+number_of_pair [] tester unit = None
+number_of_pair (one ∷ units) tester unit =
+    if is_same_identifier one.tester tester && is_same_identifier one.unit unit then Some 1
+    else option_map (λ number. number + 1) (number_of_pair units tester unit)
 
 -- what is wrong with a unit beside earlier ones: its name, or else its identifiers, are those of one
 abbrev pub wrong_beside : List UnitValue → UnitValue → Option UnitWrongValue
 wrong_beside earlier unit =
-    option_or (option_map same_name (place_of_name earlier unit.name)) (option_map same_pair (place_of_pair earlier unit.tester unit.unit))
+    option_or (option_map same_name (number_of_name earlier unit.name)) (option_map same_pair (number_of_pair earlier unit.tester unit.unit))
 
--- a unit behind earlier ones of which this is wrong
+-- a unit behind earlier ones, of which there are at most 63, and with which this is wrong beside them
 abbrev pub unless_beside : Option UnitWrongValue → List UnitValue → UnitValue → Result (List UnitValue) WrongValue
-unless_beside None earlier unit = Ok (earlier ++ unit ∷ [])
-unless_beside (Some wrong) earlier unit = Err (in_unit (length earlier) wrong)
+unless_beside None earlier unit = if nat_le 64 (length earlier) then Err many_units else Ok (earlier ++ unit ∷ [])
+unless_beside (Some wrong) earlier unit = Err (in_unit (length earlier + 1) wrong)
 
 -- what a table says behind earlier units
 abbrev pub unit_behind : List UnitValue → Result UnitValue UnitWrongValue → Result (List UnitValue) WrongValue
-unit_behind earlier (Err wrong) = Err (in_unit (length earlier) wrong)
+unit_behind earlier (Err wrong) = Err (in_unit (length earlier + 1) wrong)
 unit_behind earlier (Ok unit) = unless_beside (wrong_beside earlier unit) earlier unit
 
 -- an element, if it is a table, behind what was read so far
 abbrev pub table_behind : Option Members → Result (List UnitValue) WrongValue → Result (List UnitValue) WrongValue
 table_behind None earlier = earlier
 table_behind (Some table) (Err wrong) = Err wrong
-table_behind (Some table) (Ok earlier) = unit_behind earlier (unit_in table)
+table_behind (Some table) (Ok earlier) = unit_behind earlier (unit_said table)
 
 -- the elements of an array behind what was read so far, up to the first with which something is wrong
 abbrev pub units_behind : Items → Result (List UnitValue) WrongValue → Result (List UnitValue) WrongValue

@@ -6,7 +6,7 @@ use Rattle.profile.specs.declared.wrong.RuleKey.{RuleKey}
 use Rattle.profile.specs.declared.wrong.Wrong.{Wrong}
 use Rattle.profile.specs.declared.wrong.Wrong.TheVariants as wrong
 
--- what is wrong, by bytes
+-- what is wrong, by bytes; rules by their places, from 0, and units by their numbers, from 1
 pub data WrongValue : Type 0 where
   unknown_key : List ℕ → WrongValue
   not_strings : RuleKey → WrongValue
@@ -26,4 +26,4 @@ wrong_value (wrong.BadRule key text fault) = bad_rule key text.now fault
 wrong_value wrong.ManyRules = many_rules
 wrong_value (wrong.Shared earlier later) = shared earlier later
 wrong_value wrong.ManyUnits = many_units
-wrong_value (wrong.InUnit place fault) = in_unit place (unit_wrong_value fault)
+wrong_value (wrong.InUnit number fault) = in_unit number (unit_wrong_value fault)

@@ -32,7 +32,7 @@ fn are_digits(text: &[u8]) -> bool
 }
 
 /// Whether a bus carries the identifier: 11 bits of a base one, 29 of an extended one.
-pub(crate) fn is_of_bus(identifier: Id) -> bool
+pub fn is_of_bus(identifier: Id) -> bool
     ensures { result ≡ Spec.is_of_bus identifier }
 {
     match identifier {

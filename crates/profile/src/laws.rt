@@ -1,6 +1,7 @@
-//! What holds of each profile that a document is. Each law is its contract; a call does nothing.
+//! What holds of each profile that a document is, and of what is told of one that is none. Each law is its contract; a call
+//! does nothing.
 
-ghost use Rattle.profile.specs.Laws.{ProfileHasLegalRules, ProfileHasLegalUnits, RulesAreInOrder};
+ghost use Rattle.profile.specs.Laws.{FirstClashIsTold, FirstWrongUnitIsTold, ProfileHasLegalRules, ProfileHasLegalUnits, RulesAreInOrder, UnitsAreInOrder};
 
 /// A profile that is read has legal rules; and at most 64 legal units, no two of which have one name or one pair of
 /// identifiers.
@@ -13,4 +14,16 @@ pub fn profile_is_legal()
 /// `mask`.
 pub fn rules_are_in_order()
     ensures { RulesAreInOrder }
+{}
+
+/// The units of a profile are those that the tables of its `unit` say, one each, in their order.
+pub fn units_are_in_order()
+    ensures { UnitsAreInOrder }
+{}
+
+/// Of a document in which no key is wrong, the first two rules are told that speak of one message; and the first unit with
+/// which something is wrong, by itself or beside those before it.
+pub fn first_is_told()
+    ensures clash { FirstClashIsTold }
+    ensures unit { FirstWrongUnitIsTold }
 {}

@@ -26,9 +26,9 @@ mod units;
 mod wrong;
 
 pub use document::{DocumentFault, LONGEST_PROFILE, parse};
-pub use identifiers::identifier_of;
+pub use identifiers::{identifier_of, is_of_bus};
 pub use profile::{Profile, ProfileFault, profile_of};
-pub use profile_rules::rule_text;
+pub use profile_rules::written_rule;
 pub use unit_wrong::{UnitKey, UnitWrong};
 pub use units::ControlUnit;
 pub use wrong::{RuleKey, Wrong};

@@ -1,16 +1,17 @@
 //! What a document asks for.
 
+ghost use Rattle.std.specs.Prelude.{◌≡◌, ◌+◌, ◌≤◌, length, map, IfOk, OnErr};
 ghost use Rattle.toml.specs.View.{table_view};
 ghost use Rattle.profile.specs.Profile as Spec;
-ghost use Rattle.profile.specs.Answers.{Reads};
+ghost use Rattle.profile.specs.Answers.{Reads, parts_value, profile_value};
 
 use crate::keys::wrong_keys;
 use crate::profile_rules::profile_rules;
-use crate::units::{ControlUnit, profile_units};
+use crate::units::{ControlUnit, UnitParts, kept_units, profile_units};
 use crate::wrong::Wrong;
-use std::alloc::Global;
+use std::alloc::{AllocError, Global};
 use toml::Table;
-use uds_rules::Rules;
+use uds_rules::{RuleTable, Rules};
 
 /// A profile.
 #[derive(Drop)]
@@ -38,16 +39,26 @@ pub fn profile_of<'a>(alloc: Global, document: &'a Table) -> Result<Profile, Pro
     if let Some(wrong) = wrong_keys(document) {
         return Err(ProfileFault::Wrong(wrong));
     }
-    let table = match profile_rules(document) {
-        Ok(table) => table,
+    let rules = match profile_rules(document) {
+        Ok(rules) => rules,
         Err(wrong) => return Err(ProfileFault::Wrong(wrong)),
     };
-    let Ok(rules) = Rules::of_table(alloc, table) else {
-        return Err(ProfileFault::Memory);
+    let units = match profile_units(document) {
+        Ok(units) => units,
+        Err(wrong) => return Err(ProfileFault::Wrong(wrong)),
     };
-    match profile_units(alloc, document) {
-        Ok(Ok(units)) => Ok(Profile { rules, units }),
-        Ok(Err(wrong)) => Err(ProfileFault::Wrong(wrong)),
+    match kept(alloc, rules, units.as_slice()) {
+        Ok(profile) => Ok(profile),
         Err(_) => Err(ProfileFault::Memory),
     }
+}
+
+/// The profile of these rules and units, which it keeps: both are right.
+fn kept(alloc: Global, rules: RuleTable, units: &[UnitParts<'_>]) -> Result<Profile, AllocError>
+    ensures ok { IfOk result (λ profile. profile_value profile ≡ record { rules = rules; units = map parts_value units.now }) }
+    ensures err { OnErr result (1 ≤ length rules + length units.now) }
+{
+    let rules = Rules::of_table(alloc, rules)?;
+    let units = kept_units(alloc, units)?;
+    Ok(Profile { rules, units })
 }

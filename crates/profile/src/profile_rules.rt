@@ -35,8 +35,8 @@ pub(crate) fn profile_rules<'a>(document: &'a Table) -> Result<RuleTable, Wrong<
 }
 
 /// The text of the rule at a place, in the order drops, masks, if a text stands there.
-pub fn rule_text<'a>(document: &'a Table, place: usize) -> Option<&'a str>
-    ensures { option_map (λ text. text.now) result ≡ Spec.rule_text place (table_view document.now) }
+pub fn written_rule<'a>(document: &'a Table, place: usize) -> Option<&'a str>
+    ensures { option_map (λ text. text.now) result ≡ Spec.written_rule place (table_view document.now) }
 {
     let drops = array_at(document, "drop");
     let masks = array_at(document, "mask");

@@ -38,6 +38,9 @@ fn wrong_unit_key<'a>(key: &'a str, value: &'a Value) -> Option<UnitWrong<'a>>
     if key == "unit" {
         return wrong_identifier(UnitKey::Unit, value.as_str());
     }
+    if key == "functional" {
+        return wrong_identifier(UnitKey::Functional, value.as_str());
+    }
     Some(UnitWrong::UnknownKey(key))
 }
 

@@ -1,6 +1,6 @@
 //! What is wrong with one unit.
 
-/// A key of a unit. All are wanted.
+/// A key of a unit. All are wanted but the last.
 #[derive(Clone, Copy, Debug, PartialEq, Eq)]
 pub enum UnitKey {
     /// `name`
@@ -9,6 +9,8 @@ pub enum UnitKey {
     Tester,
     /// `unit`, its identifier
     Unit,
+    /// `functional`, the identifier on which the tester asks all units
+    Functional,
 }
 
 /// What is wrong with one unit, with the words of the profile that a reader is told. They lie in the document.
@@ -26,8 +28,10 @@ pub enum UnitWrong<'a> {
     Missing(UnitKey),
     /// Tester and unit have the same identifier.
     SameIdentifier,
-    /// The unit at this place, from 0, has the same name, the first such one.
+    /// The identifier of functional requests is that of the tester or the unit.
+    SameFunctional,
+    /// The unit of this number, from 1, has the same name, the first such one.
     SameName(usize),
-    /// The unit at this place has the same two identifiers, the first such one.
+    /// The unit of this number has the same two identifiers, the first such one.
     SamePair(usize),
 }

@@ -1,18 +1,19 @@
 //! The units of a profile, in their order.
 
-ghost use Rattle.std.specs.Prelude.{◌≡◌, map, IfOk, option_map, option_and_then};
+ghost use Rattle.std.specs.Prelude.{◌≡◌, ◌≤◌, length, map, IfOk, OnErr, option_map, option_and_then};
 ghost use Rattle.std.specs.Option.{option_or};
 ghost use Rattle.toml.specs.View.{array_view, table_view};
 ghost use Rattle.profile.specs.UnitWrong.{unit_wrong_value};
 ghost use Rattle.profile.specs.ProfileRules.{items_or_none};
 ghost use Rattle.profile.specs.Units as Spec;
-ghost use Rattle.profile.specs.Answers.{seen_unit, seen_units, unit_value, units_added};
+ghost use Rattle.profile.specs.Answers.{parts_value, seen_unit, seen_units, unit_value, units_added};
 
 use crate::document::{array_at, item_count, text_at};
 use crate::identifiers::identifier_of;
 use crate::unit_keys::wrong_unit_keys;
 use crate::unit_wrong::{UnitKey, UnitWrong};
 use crate::wrong::Wrong;
+use arrayvec::ArrayVec;
 use can_log::Id;
 use std::alloc::{AllocError, Global};
 use toml::Table;
@@ -27,6 +28,8 @@ pub struct ControlUnit {
     pub tester: Id,
     /// Its own identifier.
     pub unit: Id,
+    /// The identifier on which the tester asks all units, if it does.
+    pub functional: Option<Id>,
 }
 
 /// What a table says of a unit.
@@ -35,97 +38,129 @@ pub(crate) struct UnitParts<'a> {
     pub name: &'a str,
     pub tester: Id,
     pub unit: Id,
+    pub functional: Option<Id>,
+}
+
+/// What stands where there is no unit.
+impl<'a> Default for UnitParts<'a> {
+    ghost use Rattle.std.specs.Prelude.{◌≡◌, [], None};
+
+    ghost is_default = { λ parts. (parts.name.now ≡ []) × (parts.functional ≡ None) };
+
+    fn default() -> UnitParts<'a> {
+        UnitParts {
+            name: "",
+            tester: Id::Std(0),
+            unit: Id::Std(0),
+            functional: None,
+        }
+    }
 }
 
 /// The most units of a profile.
 const MOST_UNITS: usize = 64;
 
+/// What a document says of its units. It lies in place: what is wrong is told without memory.
+pub(crate) type UnitTable<'a> = ArrayVec<UnitParts<'a>, MOST_UNITS>;
+
 /// The units of a profile, or the first with which something is wrong.
 #[tactic(auto, using(crate::proofs::Behind::units_stop))]
-pub(crate) fn profile_units<'a>(
-    alloc: Global,
-    document: &'a Table,
-) -> Result<Result<Vec<ControlUnit>, Wrong<'a>>, AllocError>
-    ensures { IfOk result (λ units. seen_units units ≡ Spec.profile_units (table_view document.now)) }
+pub(crate) fn profile_units<'a>(document: &'a Table) -> Result<UnitTable<'a>, Wrong<'a>>
+    ensures { seen_units result ≡ Spec.profile_units (table_view document.now) }
 {
     let array = array_at(document, "unit");
     if item_count(array) > MOST_UNITS {
-        return Ok(Err(Wrong::ManyUnits));
+        return Err(Wrong::ManyUnits);
     }
+    let mut units = UnitTable::new();
+    match add_units(&mut units, array) {
+        Some(wrong) => Err(wrong),
+        None => Ok(units),
+    }
+}
+
+/// The units of these parts.
+pub(crate) fn kept_units(
+    alloc: Global,
+    table: &[UnitParts<'_>],
+) -> Result<Vec<ControlUnit>, AllocError>
+    ensures ok { IfOk result (λ units. map unit_value units.items ≡ map parts_value table.now) }
+    ensures err { OnErr result (1 ≤ length table.now) }
+{
     let mut units = Vec::new(alloc);
-    match add_units(alloc, &mut units, array) {
-        Ok(None) => Ok(Ok(units)),
-        Ok(Some(wrong)) => Ok(Err(wrong)),
-        Err(refused) => Err(refused),
+    'units: for one in table {
+        units.push(kept_unit(alloc, one)?)?;
     }
+    Ok(units)
+}
+
+/// The unit of these parts.
+fn kept_unit(alloc: Global, one: &UnitParts<'_>) -> Result<ControlUnit, AllocError>
+    ensures { IfOk result (λ unit. unit_value unit ≡ parts_value one.now) }
+{
+    Ok(ControlUnit {
+        name: String::from_str(alloc, one.name)?,
+        tester: one.tester,
+        unit: one.unit,
+        functional: one.functional,
+    })
 }
 
 /// Adds the units of an array, up to the first with which something is wrong.
 #[tactic(auto, using(crate::proofs::Behind::units_stop))]
-fn add_units<'a>(
-    alloc: Global,
-    units: &mut Vec<ControlUnit>,
-    array: Option<&'a Array>,
-) -> Result<Option<Wrong<'a>>, AllocError>
-    ensures { IfOk result (λ wrong. units_added wrong units.new.items
-        ≡ Spec.units_behind (items_or_none (option_map (λ array. array_view array.now) array.entry)) (Ok (map unit_value units.old.items))) }
+fn add_units<'a>(units: &mut UnitTable<'a>, array: Option<&'a Array>) -> Option<Wrong<'a>>
+    ensures { units_added result units.new.items
+        ≡ Spec.units_behind (items_or_none (option_map (λ array. array_view array.now) array.entry)) (Ok (map parts_value units.old.items)) }
 {
     let Some(array) = array else {
-        return Ok(None);
+        return None;
     };
     'items: for item in array {
-        match add_table(alloc, units, item.as_table()) {
-            Ok(None) => {}
-            Ok(Some(wrong)) => return Ok(Some(wrong)),
-            Err(refused) => return Err(refused),
+        if let Some(wrong) = add_table(units, item.as_table()) {
+            return Some(wrong);
         }
     }
-    Ok(None)
+    None
 }
 
 /// Adds the unit that an element says, if it is a table.
-fn add_table<'a>(
-    alloc: Global,
-    units: &mut Vec<ControlUnit>,
-    table: Option<&'a Table>,
-) -> Result<Option<Wrong<'a>>, AllocError>
-    ensures { IfOk result (λ wrong. units_added wrong units.new.items
-        ≡ Spec.table_behind (option_map (λ table. table_view table.now) table.entry) (Ok (map unit_value units.old.items))) }
+fn add_table<'a>(units: &mut UnitTable<'a>, table: Option<&'a Table>) -> Option<Wrong<'a>>
+    ensures { units_added result units.new.items
+        ≡ Spec.table_behind (option_map (λ table. table_view table.now) table.entry) (Ok (map parts_value units.old.items)) }
 {
     match table {
-        Some(table) => add_unit(alloc, units, table),
-        None => Ok(None),
+        Some(table) => add_unit(units, table),
+        None => None,
     }
 }
 
 /// Adds the unit that a table says, or tells what is wrong with it.
-fn add_unit<'a>(
-    alloc: Global,
-    units: &mut Vec<ControlUnit>,
-    table: &'a Table,
-) -> Result<Option<Wrong<'a>>, AllocError>
-    ensures { IfOk result (λ wrong. units_added wrong units.new.items ≡ Spec.unit_behind (map unit_value units.old.items) (Spec.unit_in (table_view table.now))) }
+fn add_unit<'a>(units: &mut UnitTable<'a>, table: &'a Table) -> Option<Wrong<'a>>
+    ensures { units_added result units.new.items ≡ Spec.unit_behind (map parts_value units.old.items) (Spec.unit_said (table_view table.now)) }
 {
-    let place = units.len();
-    match unit_in(table) {
-        Ok(parts) => match wrong_beside(units, &parts) {
-            Some(wrong) => Ok(Some(Wrong::InUnit(place, wrong))),
-            None => {
-                units.push(ControlUnit {
-                    name: String::from_str(alloc, parts.name)?,
-                    tester: parts.tester,
-                    unit: parts.unit,
-                })?;
-                Ok(None)
-            }
+    let number = units.len() + 1;
+    match unit_said(table) {
+        Ok(parts) => match wrong_beside(units.as_slice(), &parts) {
+            Some(wrong) => Some(Wrong::InUnit(number, wrong)),
+            None => keep(units, parts),
         },
-        Err(wrong) => Ok(Some(Wrong::InUnit(place, wrong))),
+        Err(wrong) => Some(Wrong::InUnit(number, wrong)),
+    }
+}
+
+/// Keeps the parts of a unit behind those of at most 63.
+fn keep<'a>(units: &mut UnitTable<'a>, parts: UnitParts<'a>) -> Option<Wrong<'a>>
+    ensures { units_added result units.new.items ≡ Spec.unless_beside None (map parts_value units.old.items) (parts_value parts.entry) }
+{
+    match units.try_push(parts) {
+        Ok(()) => None,
+        Err(_) => Some(Wrong::ManyUnits),
     }
 }
 
 /// The unit that a table says, or what is wrong with it by itself.
-fn unit_in<'a>(table: &'a Table) -> Result<UnitParts<'a>, UnitWrong<'a>>
-    ensures { seen_unit result ≡ Spec.unit_in (table_view table.now) }
+fn unit_said<'a>(table: &'a Table) -> Result<UnitParts<'a>, UnitWrong<'a>>
+    ensures { seen_unit result ≡ Spec.unit_said (table_view table.now) }
 {
     if let Some(wrong) = wrong_unit_keys(table) {
         return Err(wrong);
@@ -142,7 +177,16 @@ fn unit_in<'a>(table: &'a Table) -> Result<UnitParts<'a>, UnitWrong<'a>>
     if is_same_identifier(tester, unit) {
         return Err(UnitWrong::SameIdentifier);
     }
-    Ok(UnitParts { name, tester, unit })
+    let functional = identifier_at(table, "functional");
+    if is_of_side(functional, tester, unit) {
+        return Err(UnitWrong::SameFunctional);
+    }
+    Ok(UnitParts {
+        name,
+        tester,
+        unit,
+        functional,
+    })
 }
 
 /// The identifier at a key, if one stands there.
@@ -156,45 +200,56 @@ fn identifier_at(table: &Table, key: &str) -> Option<Id>
 }
 
 /// What is wrong with a unit beside earlier ones.
-fn wrong_beside<'a>(units: &[ControlUnit], parts: &UnitParts<'a>) -> Option<UnitWrong<'a>>
-    ensures { option_map unit_wrong_value result ≡ Spec.wrong_beside (map unit_value units.now)
-        (record { name = parts.now.name.now; tester = parts.now.tester; unit = parts.now.unit }) }
+fn wrong_beside<'a>(units: &[UnitParts<'a>], parts: &UnitParts<'a>) -> Option<UnitWrong<'a>>
+    ensures { option_map unit_wrong_value result ≡ Spec.wrong_beside (map parts_value units.now) (parts_value parts.now) }
 {
-    if let Some(place) = place_of_name(units, parts.name) {
-        return Some(UnitWrong::SameName(place));
+    if let Some(number) = number_of_name(units, parts.name) {
+        return Some(UnitWrong::SameName(number));
     }
-    match place_of_pair(units, parts.tester, parts.unit) {
-        Some(place) => Some(UnitWrong::SamePair(place)),
+    match number_of_pair(units, parts.tester, parts.unit) {
+        Some(number) => Some(UnitWrong::SamePair(number)),
         None => None,
     }
 }
 
-/// The place of the first unit of this name, if there is one.
-fn place_of_name(units: &[ControlUnit], name: &str) -> Option<usize>
-    ensures { result ≡ Spec.place_of_name (map unit_value units.now) name.now }
+/// The number, from 1, of the first unit of this name, if there is one.
+fn number_of_name(units: &[UnitParts<'_>], name: &str) -> Option<usize>
+    ensures { result ≡ Spec.number_of_name (map parts_value units.now) name.now }
 {
-    let mut place = 0;
+    let mut number = 0;
     'units: for one in units {
-        if one.name.as_str() == name {
-            return Some(place);
+        number += 1;
+        if one.name == name {
+            return Some(number);
         }
-        place += 1;
     }
     None
 }
 
-/// The place of the first unit of these identifiers, if there is one.
-fn place_of_pair(units: &[ControlUnit], tester: Id, unit: Id) -> Option<usize>
-    ensures { result ≡ Spec.place_of_pair (map unit_value units.now) tester unit }
+/// The number of the first unit of these identifiers, if there is one.
+fn number_of_pair(units: &[UnitParts<'_>], tester: Id, unit: Id) -> Option<usize>
+    ensures { result ≡ Spec.number_of_pair (map parts_value units.now) tester unit }
 {
-    let mut place = 0;
+    let mut number = 0;
     'units: for one in units {
+        number += 1;
         if is_same_identifier(one.tester, tester) && is_same_identifier(one.unit, unit) {
-            return Some(place);
+            return Some(number);
         }
-        place += 1;
     }
     None
+}
+
+/// Whether there is an identifier of functional requests, and it is one of the two.
+fn is_of_side(functional: Option<Id>, tester: Id, unit: Id) -> bool
+    ensures { result ≡ Spec.is_of_side functional tester unit }
+{
+    match functional {
+        Some(functional) => {
+            is_same_identifier(functional, tester) || is_same_identifier(functional, unit)
+        }
+        None => false,
+    }
 }
 
 /// Whether two identifiers have one format and one number.

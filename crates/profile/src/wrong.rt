@@ -26,10 +26,10 @@ pub enum Wrong<'a> {
     /// More than 64 rules.
     ManyRules,
     /// Two rules speak of one message: their places, from 0, in the order drops, masks
-    /// ([`rule_text`](crate::rule_text)).
+    /// ([`written_rule`](crate::written_rule)).
     Shared(usize, usize),
     /// More than 64 units.
     ManyUnits,
-    /// This is wrong with the unit at this place, from 0.
+    /// This is wrong with the unit of this number, from 1.
     InUnit(usize, UnitWrong<'a>),
 }

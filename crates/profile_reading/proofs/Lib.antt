@@ -1,1 +1,3 @@
 pub mod Told
+pub mod Files
+pub mod Lines

@@ -1,30 +1,34 @@
 -- Names and identifiers, as they are told, and the table of a unit.
 use Prim.Native.Nat.{zero, suc}
 use Rattle.std.proofs.Common.{◌≡◌, ℕ, ◌+◌, ◌*◌, ◌/◌, ◌%◌, ◌^◌, ◌<◌, ◌≤◌, Bool, true, false, List, [], ◌∷◌, ◌++◌, Option, Some, None, Result, Ok, Err}
-use Rattle.std.proofs.Common.{length, length-append, codes, refl, sym, ap, ◌∙◌, arith}
+use Rattle.std.proofs.Common.{length, length-append, codes, refl, ap, ◌∙◌, arith}
 use Rattle.std.proofs.Math.Nat.{pow-suc, pow-zero, div-lt_iff_lt-mul}
-use Rattle.std.proofs.lemmas.Bool.{leb-true}
+use Rattle.std.proofs.lemmas.Bool.{eqb-true, leb-false, leb-true}
 use Rattle.std.proofs.lemmas.Bool.Decides.{nat_tests}
 use Rattle.std.proofs.lemmas.Int.Digits.{digits_value_push}
 use Rattle.std.proofs.lemmas.Nat.{div-add-mod'}
 use Rattle.std.specs.Char.{digit_value, is_ascii_hexdigit}
 use Rattle.std.specs.List.{list_all}
-use Rattle.std.specs.Option.{option_or}
-use Rattle.std.specs.Prelude.{◌&&◌, ◌||◌, ◌==◌, nat_le, if◌then◌else◌}
+use Rattle.std.specs.Option.{option_map, option_or}
+use Rattle.std.specs.Prelude.{◌&&◌, ◌||◌, ◌==◌, nat_le, not, if◌then◌else◌}
 use Rattle.std.specs.Str.Parse.{digits_value}
 use Rattle.can_log.specs.Canonical.{identifier_text}
 use Rattle.can_log.specs.Digits.{digit, digits, hexadecimal}
+use Rattle.can_log.specs.Frame.{FrameValue}
 use Rattle.can_log.specs.Line as line
 use Rattle.can_log.specs.declared.frame.Id.{Id}
 use Rattle.can_log.specs.declared.frame.Id.TheVariants as id
 use Rattle.profile.specs.UnitKeys.{identifier_of, is_name, is_name_byte, is_of_bus, wrong_spelled}
-use Rattle.profile.specs.UnitWrong.{UnitWrongValue, not_a_name, out_of_range, same_identifier}
-use Rattle.profile.specs.Units.{UnitValue, is_same_identifier, unit_in, unit_of, unless_wrong}
+use Rattle.profile.specs.UnitWrong.{UnitWrongValue, not_a_name, out_of_range, same_functional, same_identifier}
+use Rattle.profile.specs.Units.{UnitValue, is_of_side, is_same_identifier, unit_said, unit_of, unless_wrong}
 use Rattle.profile.specs.declared.unit_wrong.UnitKey.TheVariants as unit_key
 use Rattle.toml.specs.Data.{member, no_members, string}
+use Rattle.trace_canon.specs.CreditLines.{unit_name}
 use Rattle.uds_find.specs.Credit.{is_same}
-use Rattle.uds_find.proofs.Promises.{tester_is_another}
-use Rattle.profile_reading.specs.Laws.{IdentifiersAreReadBack, NamesAreLegal, UnitsAreReadAsMeant}
+use Rattle.uds_find.specs.Finding.{FoundUnit, credit_line, id_text}
+use Rattle.uds_find.specs.Functional.{IsFunctionalOf, has_as_many_digits, is_functional_identifier}
+use Rattle.uds_find.proofs.Promises.{functional_is_identifier, tester_is_another}
+use Rattle.profile_reading.specs.Laws.{IdentifiersAreReadBack, IsUnitOfBus, NamesAreLegal, UnitsAreReadAsMeant, functional_in_front}
 
 -- ---- digits
 
@@ -104,6 +108,16 @@ identifiers_are_read_back (id.Ext number) extended =
     ∙ ap (λ n. Some (if n == 8 then id.Ext (digits_value 16 (hexadecimal 8 number)) else id.Std (digits_value 16 (hexadecimal 8 number)))) long
     ∙ ap (λ n. Some (id.Ext n)) is
 
+-- each digit is a hexadecimal one
+pub hexadecimal-text : (identifier : Id) → list_all is_ascii_hexdigit (identifier_text identifier) ≡ true
+hexadecimal-text (id.Std number) = all-digits is_ascii_hexdigit hex-digit 3 number
+hexadecimal-text (id.Ext number) = all-digits is_ascii_hexdigit hex-digit 8 number
+
+-- an identifier is itself
+pub same-one : (one : Id) → is_same one one ≡ true
+same-one (id.Std number) = grind arith
+same-one (id.Ext number) = grind arith
+
 -- ---- names
 
 of-digits : (identifier : Id) → (list_all is_name_byte (identifier_text identifier) ≡ true) × (length (identifier_text identifier) ≤ 8)
@@ -123,45 +137,106 @@ name-of a b one other few more =
     ∙ ap (λ n. nat_le 1 n && (nat_le n 32 && true)) long ∙ short-enough (length a + length b) (omega arith)
 
 pub names_are_legal : NamesAreLegal
-names_are_legal frames pair =
-    let one = of-digits pair.tester in
-    let other = of-digits pair.unit in
-    name-of (identifier_text pair.tester) (identifier_text pair.unit) one.0 other.0 one.1 other.1
+names_are_legal frames found =
+    let one = of-digits found.pair.tester in
+    let other = of-digits found.pair.unit in
+    name-of (identifier_text found.pair.tester) (identifier_text found.pair.unit) one.0 other.0 one.1 other.1
 
 -- ---- the table
 
-pub table-read : (name first second : List ℕ) (tester unit : Id) → is_name name ≡ true → identifier_of first ≡ Some tester → is_of_bus tester ≡ true
-    → identifier_of second ≡ Some unit → is_of_bus unit ≡ true → is_same_identifier tester unit ≡ false
-    → unit_in (member (codes "name") (string name) (member (codes "tester") (string first) (member (codes "unit") (string second) no_members)))
-    ≡ Ok (record { name = name; tester = tester; unit = unit })
-table-read name first second tester unit legal first_is tester_fits second_is unit_fits apart =
+-- what is read of the keys behind the functional one
+rest-read : (name first second : List ℕ) (tester unit : Id) (functional : Option Id) → is_name name ≡ true → identifier_of first ≡ Some tester
+    → is_of_bus tester ≡ true → identifier_of second ≡ Some unit → is_of_bus unit ≡ true → is_same_identifier tester unit ≡ false
+    → is_of_side functional tester unit ≡ false
+    → unless_wrong (option_or (if is_name name then None else Some not_a_name)
+    (option_or (wrong_spelled unit_key.Tester (identifier_of first)) (option_or (wrong_spelled unit_key.Unit (identifier_of second)) None)))
+    (unit_of (Some name) (identifier_of first) (identifier_of second) functional)
+    ≡ Ok (record { name = name; tester = tester; unit = unit; functional = functional })
+rest-read name first second tester unit functional legal first_is tester_fits second_is unit_fits apart beside =
     ap (λ b. unless_wrong (option_or (if b then None else Some not_a_name)
     (option_or (wrong_spelled unit_key.Tester (identifier_of first)) (option_or (wrong_spelled unit_key.Unit (identifier_of second)) None)))
-    (unit_of (Some name) (identifier_of first) (identifier_of second))) legal
+    (unit_of (Some name) (identifier_of first) (identifier_of second) functional)) legal
     ∙ ap (λ o. unless_wrong (option_or (wrong_spelled unit_key.Tester o) (option_or (wrong_spelled unit_key.Unit (identifier_of second)) None))
-    (unit_of (Some name) o (identifier_of second))) first_is
+    (unit_of (Some name) o (identifier_of second) functional)) first_is
     ∙ ap (λ o. unless_wrong (option_or (wrong_spelled unit_key.Tester (Some tester)) (option_or (wrong_spelled unit_key.Unit o) None))
-    (unit_of (Some name) (Some tester) o)) second_is
+    (unit_of (Some name) (Some tester) o functional)) second_is
     ∙ ap (λ b. unless_wrong (option_or (if b then None else Some (out_of_range unit_key.Tester))
-    (option_or (wrong_spelled unit_key.Unit (Some unit)) None)) (unit_of (Some name) (Some tester) (Some unit))) tester_fits
+    (option_or (wrong_spelled unit_key.Unit (Some unit)) None)) (unit_of (Some name) (Some tester) (Some unit) functional)) tester_fits
     ∙ ap (λ b. unless_wrong (option_or (if b then None else Some (out_of_range unit_key.Unit)) None)
-    (unit_of (Some name) (Some tester) (Some unit))) unit_fits
-    ∙ ap (λ b. one-of b) apart
+    (unit_of (Some name) (Some tester) (Some unit) functional)) unit_fits
+    ∙ ap (λ b. if b then Err same_identifier else (if is_of_side functional tester unit then Err same_functional else Ok made)) apart
+    ∙ ap (λ b. one-of b) beside
   where
     made : UnitValue
-    made = record { name = name; tester = tester; unit = unit }
+    made = record { name = name; tester = tester; unit = unit; functional = functional }
 
     one-of : Bool → Result UnitValue UnitWrongValue
-    one-of b = if b then Err same_identifier else Ok made
+    one-of b = if b then Err same_functional else Ok made
 
-same-as : (one other : Id) → is_same_identifier one other ≡ is_same one other
+pub same-as : (one other : Id) → is_same_identifier one other ≡ is_same one other
 same-as (id.Std one) (id.Std other) = refl
 same-as (id.Std one) (id.Ext other) = refl
 same-as (id.Ext one) (id.Std other) = refl
 same-as (id.Ext one) (id.Ext other) = refl
 
+-- a bus carries each identifier for functional requests
+functional-fits : (one : Id) → is_functional_identifier one ≡ true → is_of_bus one ≡ true
+functional-fits (id.Std number) is = ap (λ n. nat_le n 0x7FF) (eqb-true number 0x7DF is)
+functional-fits (id.Ext number) is = small (nat_le number 0x1FFFFFFF) refl
+  where
+    small : (b : Bool) → nat_le number 0x1FFFFFFF ≡ b → b ≡ true
+    small true fits = refl
+    small false beyond = absurd (omega (arith, leb-false number 0x1FFFFFFF beyond, eqb-true (number / 65536) 0x18DB is))
+
+parts-of-third : (a b c : Bool) → (a && (not b && not c)) ≡ true → (b || c) ≡ false
+parts-of-third true false false is = refl
+parts-of-third true true c is = absurd (cc is)
+parts-of-third true false true is = absurd (cc is)
+parts-of-third false b c is = absurd (cc is)
+
+module _ (frames : List FrameValue) (found : FoundUnit) (stands : IsUnitOfBus frames found) where
+  rest-is : (functional : Option Id) → is_of_side functional found.pair.tester found.pair.unit ≡ false
+      → unless_wrong (option_or (if is_name (unit_name (credit_line frames found)) then None else Some not_a_name)
+      (option_or (wrong_spelled unit_key.Tester (identifier_of (identifier_text found.pair.tester)))
+      (option_or (wrong_spelled unit_key.Unit (identifier_of (identifier_text found.pair.unit))) None)))
+      (unit_of (Some (unit_name (credit_line frames found))) (identifier_of (identifier_text found.pair.tester))
+      (identifier_of (identifier_text found.pair.unit)) functional)
+      ≡ Ok (record { name = unit_name (credit_line frames found); tester = found.pair.tester; unit = found.pair.unit; functional = functional })
+  rest-is functional beside =
+      rest-read (unit_name (credit_line frames found)) (identifier_text found.pair.tester) (identifier_text found.pair.unit)
+      found.pair.tester found.pair.unit functional (names_are_legal frames found)
+      (identifiers_are_read_back found.pair.tester stands.tester) stands.tester
+      (identifiers_are_read_back found.pair.unit stands.unit) stands.unit
+      (same-as found.pair.tester found.pair.unit ∙ tester_is_another frames found.pair stands.is_found.tester) beside
+
+  third-apart : (one : Id) → IsFunctionalOf frames found.pair (Some one) → is_of_side (Some one) found.pair.tester found.pair.unit ≡ false
+  third-apart one third =
+      ap (λ b. b || is_same_identifier one found.pair.unit) (same-as one found.pair.tester)
+      ∙ ap (λ b. is_same one found.pair.tester || b) (same-as one found.pair.unit)
+      ∙ parts-of-third (has_as_many_digits one found.pair.unit) (is_same one found.pair.tester) (is_same one found.pair.unit) third.third
+
+  -- with this functional identifier
+  table-is : (functional : Option Id) → IsFunctionalOf frames found.pair functional
+      → unit_said (functional_in_front (option_map id_text functional) (member (codes "name") (string (unit_name (credit_line frames found)))
+      (member (codes "tester") (string (identifier_text found.pair.tester)) (member (codes "unit") (string (identifier_text found.pair.unit))
+      no_members))))
+      ≡ Ok (record { name = unit_name (credit_line frames found); tester = found.pair.tester; unit = found.pair.unit; functional = functional })
+  table-is None none = rest-is None refl
+  table-is (Some one) third =
+      let fits = functional-fits one (functional_is_identifier frames one third.functional) in
+      ap (λ o. unless_wrong (option_or (wrong_spelled unit_key.Functional o)
+      (option_or (if is_name (unit_name (credit_line frames found)) then None else Some not_a_name)
+      (option_or (wrong_spelled unit_key.Tester (identifier_of (identifier_text found.pair.tester)))
+      (option_or (wrong_spelled unit_key.Unit (identifier_of (identifier_text found.pair.unit))) None))))
+      (unit_of (Some (unit_name (credit_line frames found))) (identifier_of (identifier_text found.pair.tester))
+      (identifier_of (identifier_text found.pair.unit)) o)) (identifiers_are_read_back one fits)
+      ∙ ap (λ b. unless_wrong (option_or (if b then None else Some (out_of_range unit_key.Functional))
+      (option_or (if is_name (unit_name (credit_line frames found)) then None else Some not_a_name)
+      (option_or (wrong_spelled unit_key.Tester (identifier_of (identifier_text found.pair.tester)))
+      (option_or (wrong_spelled unit_key.Unit (identifier_of (identifier_text found.pair.unit))) None))))
+      (unit_of (Some (unit_name (credit_line frames found))) (identifier_of (identifier_text found.pair.tester))
+      (identifier_of (identifier_text found.pair.unit)) (Some one))) fits
+      ∙ rest-is (Some one) (third-apart one third)
+
 pub units_are_read_as_meant : UnitsAreReadAsMeant
-units_are_read_as_meant frames pair stands tester_fits unit_fits =
-    table-read _ (identifier_text pair.tester) (identifier_text pair.unit) pair.tester pair.unit (names_are_legal frames pair)
-    (identifiers_are_read_back pair.tester tester_fits) tester_fits (identifiers_are_read_back pair.unit unit_fits) unit_fits
-    (same-as pair.tester pair.unit ∙ tester_is_another frames pair stands)
+units_are_read_as_meant frames found stands = table-is frames found stands found.functional stands.is_found.functional

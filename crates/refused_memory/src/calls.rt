@@ -2,7 +2,7 @@
 
 use can_log::{Frame, Id};
 use direction::Dir;
-use isotp_receive::{Pair, Verdict};
+use isotp_receive::{Channel, Pair, Verdict};
 use std::alloc::Global;
 use std::io::{Error, ErrorKind, Result as IoResult, Write};
 use std::test::Fail;
@@ -60,7 +60,7 @@ fn received(alloc: Global, session: Session) -> Result<Made, Fail> {
     let mut made = Made::Once;
     for (dir, kind, data) in session.frames {
         let frame = Frame::new(Id::Std(0x7E8), *kind, data).ok_or("no frame")?;
-        match pair.accept(0, 0, *dir, &frame) {
+        match pair.accept(0, 0, Channel::of(*dir), &frame) {
             Err(_refused) => {
                 made = Made::Again;
                 sink.lost = Some(*dir);

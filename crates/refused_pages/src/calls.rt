@@ -8,6 +8,7 @@ use trace_io::{Reading, Writing};
 use trace_log::{CompareFault, Config, Fault, Summary};
 use trace_pair::{Aligned, Title, align_two, write_pair_page};
 use tried_sessions::{Page, SESSIONS, Session, sides};
+use uds_rules::Rules;
 
 /// How often a call is made until it answers: again, where it is refused memory.
 const TRIES: [bool; 2] = [false, true];
@@ -97,12 +98,14 @@ fn aligned<'a>(
 
 /// The page of what is answered of these.
 fn page_of_two(answer: &Result<Aligned<'_>, CompareFault>) -> Result<Page, Fail> {
+    let rules = Rules::none();
     let title = Title {
         style: "",
         left: b"log",
         right: b"canonical",
         tester: Id::Std(0x7E0),
         unit: Id::Std(0x7E8),
+        rules: &rules,
     };
     let mut writer = Writing::new(Page::new());
     write_pair_page(&title, answer, None, &mut writer)?;

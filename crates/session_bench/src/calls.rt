@@ -108,6 +108,7 @@ pub(crate) fn run_pair_page(
         right: b"today.log",
         tester: config.tester(),
         unit: config.unit(),
+        rules: config.rules(),
     };
     let answer = align_two(alloc, config, &mut Bytes::new(left), &mut Bytes::new(right));
     let _ = write_pair_page(&title, &answer, None, &mut writer);

@@ -1,5 +1,6 @@
 mod MarkedBytes
 mod BytesBehind
+mod CodesBehind
 mod WordPlaces
 mod ListedBytes
 mod Harmless

@@ -8,6 +8,7 @@ use Rattle.uds_rules.specs.Mask.{MaskValue}
 use Rattle.uds_rules.specs.Rule.{RuleValue, mask_of}
 use Rattle.shown_bytes.specs.Letters.{last_letters, letters_text}
 use Rattle.shown_bytes.specs.StandardNames.{names_text}
+use Rattle.shown_bytes.specs.TroubleCodes.{trouble_text}
 
 -- a blank and two digits for a byte
 abbrev pub byte_behind : ℕ → List ℕ
@@ -182,9 +183,9 @@ marked_data found bytes =
     else cut_data (marked_apart (marks_of found) (take shown_first bytes)) (length bytes - shown_first)
 
 -- the same of a message which has a mask or has none, and behind the bytes of one that has none the names that the standards
--- have for the first of them
+-- have for the first of them, and its trouble codes
 abbrev pub data_by : Option (MaskValue × ℕ) → List ℕ → List ℕ
-data_by None bytes = plain_data bytes ++ names_text bytes
+data_by None bytes = plain_data bytes ++ names_text bytes ++ trouble_text bytes
 data_by (Some found) bytes = marked_data found bytes
 
 -- the bytes of a message that rules have left, as far as its row shows them

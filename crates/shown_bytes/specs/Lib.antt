@@ -1,5 +1,6 @@
 pub mod Letters
 pub mod StandardNames
+pub mod TroubleCodes
 pub mod Data
 pub mod LogNames
 pub mod Laws

@@ -6,6 +6,7 @@ ghost use Rattle.shown_bytes.specs.Data.{bytes_behind, marked_brief, marked_data
 use crate::letters::{LastLetters, LettersText};
 use crate::marks::Marks;
 use crate::standard_names::NamesText;
+use crate::trouble_codes::TroubleText;
 use can_log::digits_of_bytes;
 use std::simd::prelude::*;
 use text_parts::{Either, Part, When, say};
@@ -252,7 +253,10 @@ impl<'a> Part for Data<'a> {
         let Data { rules, message } = self;
         match rules.mask_of(message) {
             Some((mask, start)) => say_marked_data(mask, start, message, out),
-            None => say(out, (PlainData(message), NamesText(message))),
+            None => say(
+                out,
+                (PlainData(message), NamesText(message), TroubleText(message)),
+            ),
         }
     }
 }

@@ -13,6 +13,7 @@
 //! | bytes as letters | `letters` | `Letters` |
 //! | which bytes are masked | `marks` | `Data` |
 //! | what the standards call the first bytes | `standard_names` | `StandardNames` |
+//! | trouble codes as people spell them | `trouble_codes` | `TroubleCodes` |
 //! | the bytes of a message, whole or a piece of them | `data` | `Data` |
 //! | the name of a log | `log_names` | `LogNames` |
 //! | what holds of all of them | [`laws`] | `Laws` |
@@ -24,6 +25,7 @@ mod letters;
 mod log_names;
 mod marks;
 mod standard_names;
+mod trouble_codes;
 
 pub use data::{BriefData, Data, MoreWords, Piece, is_cut_behind, is_masked_at, known_length};
 pub use letters::{has_word, shown_byte};

@@ -3,6 +3,7 @@ use Rattle.std.proofs.Common.{◌≡◌, ℕ, ◌+◌, ◌<◌, ◌≤◌, ◌^�
 use Rattle.std.proofs.lemmas.Bool.{le-leb, lt-leb}
 use Rattle.direction.specs.Dir.{Message}
 use Rattle.direction.specs.declared.Dir.{Dir}
+use Rattle.isotp_receive.specs.Channels.{dir_of}
 use Rattle.isotp_receive.specs.declared.TheConstants.{MESSAGE_LIMIT}
 use Rattle.isotp_receive.specs.EventSeen.{seen_verdict}
 use Rattle.isotp_receive.specs.Trace.{Entry}
@@ -72,9 +73,10 @@ same_rules is was = ap (λ (s : Settings). s.rules) (is ∙ sym was)
 -- of the messages of a trace with one more frame each rule spoke as often as was counted behind those before
 pub counts_next : (own rules : List RuleValue) (T : List Entry) (e : Entry) (seen : Seen) (old new : List ℕ) → IsSeen rules T e seen → own ≡ rules
     → old ≡ spoken_counts rules (messages MESSAGE_LIMIT T)
-    → ((M : List Message) (d : Dir) → length M < 2 ^ 62 → old ≡ spoken_counts own M → new ≡ spoken_counts own (M ++ told_message d (seen_verdict seen.event.verdict)))
+    → ((M : List Message) (d : Dir) → length M < 2 ^ 62 → old ≡ spoken_counts own M
+    → new ≡ spoken_counts own (M ++ told_message d (seen_verdict seen.event.verdict)))
     → new ≡ spoken_counts rules (messages MESSAGE_LIMIT (T ++ e ∷ []))
 counts_next own rules T e seen old new is same stood counted =
     let M = messages MESSAGE_LIMIT T in
-    let behind = counted M seen.dir (few_messages T is.event.few) (stood ∙ ap (λ (l : List RuleValue). spoken_counts l M) (sym same)) in
+    let behind = counted M (dir_of seen.channel) (few_messages T is.event.few) (stood ∙ ap (λ (l : List RuleValue). spoken_counts l M) (sym same)) in
     spoken_next own rules T e seen new is behind ∙ ap (λ (l : List RuleValue). spoken_counts l (messages MESSAGE_LIMIT (T ++ e ∷ []))) same

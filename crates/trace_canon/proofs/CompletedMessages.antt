@@ -1,11 +1,12 @@
 -- A frame that completes a message: one of which a machine is told, and that a log which means something has one.
 use Rattle.std.proofs.Common.{◌≡◌, ◌≢◌, ℕ, List, [], ◌∷◌, ◌++◌, Option, Some, None, inr, refl, ap, sym, subst, ◌∙◌, append-nil, append_assoc}
 use Rattle.direction.specs.Dir.{Message}
-use Rattle.direction.specs.declared.Dir.{Dir}
 use Rattle.can_log.proofs.Promises.{lines_mean_one_more}
 use Rattle.can_log.specs.Log.{log_lines, LinesMean}
 use Rattle.can_log.specs.declared.frame.Stamped.{Stamped}
+use Rattle.isotp_receive.specs.Channels.{dir_of}
 use Rattle.isotp_receive.specs.declared.TheConstants.{MESSAGE_LIMIT}
+use Rattle.isotp_receive.specs.declared.channel.Channel.{Channel}
 use Rattle.isotp_receive.specs.Trace.{Entry}
 use Rattle.isotp_receive.specs.Verdict.{VerdictValue, message, began, stored, flowed, dropped, messages, told_message, verdict}
 use Rattle.uds_exchange.specs.Judging.{sent}
@@ -15,7 +16,7 @@ use Rattle.trace_log.proofs.Promises.{messages_more, trace_next, trace_same_blan
 use Rattle.uds_rules.specs.Rule.{RuleValue}
 use Rattle.uds_rules.specs.Under.{under}
 use Rattle.trace_log.specs.Messages.{HasMeaning, messages_under}
-use Rattle.trace_log.specs.Settings.{Settings, direction_of}
+use Rattle.trace_log.specs.Settings.{Settings, channel_by}
 use Rattle.trace_log.specs.Trace.{trace, trace_from}
 use Rattle.trace_log.specs.proving.Receiving.{entry_in}
 use Rattle.trace_run.proofs.Promises.{CompletesJudged}
@@ -41,12 +42,12 @@ completes_such IsSuch rules T e judged completes such = (
 
 module _ (limit : ℕ) (settings : Settings) where
   -- the messages are the same behind a frame that tells none
-  no_message_more : (past : List (Option Stamped)) (stamped : Stamped) (d : Dir) → Some d ≡ direction_of settings stamped.frame.id
-      → told_message d (verdict limit (trace settings past) (entry_in past stamped d)).verdict ≡ []
+  no_message_more : (past : List (Option Stamped)) (stamped : Stamped) (c : Channel) → Some c ≡ channel_by settings stamped.frame.id
+      → told_message (dir_of c) (verdict limit (trace settings past) (entry_in past stamped c)).verdict ≡ []
       → messages limit (trace settings (past ++ Some stamped ∷ [])) ≡ messages limit (trace settings past)
-  no_message_more past stamped d is none =
+  no_message_more past stamped c is none =
       let T = trace settings past in
-      ap (messages limit) (trace_next settings past (Some stamped) stamped d refl is) ∙ messages_more limit T (entry_in past stamped d)
+      ap (messages limit) (trace_next settings past (Some stamped) stamped c refl is) ∙ messages_more limit T (entry_in past stamped c)
       ∙ ap (λ (M : List Message). messages limit T ++ M) none ∙ append-nil (messages limit T)
 
   module _ (log : List ℕ) where
@@ -55,25 +56,25 @@ module _ (limit : ℕ) (settings : Settings) where
 
     -- the next frame completes a message, or the messages are the same behind it
     completed_or_on : (before later : List (List ℕ)) (line : List ℕ) (past : List (Option Stamped)) (stamped : Stamped)
-        (d : Dir) → log_lines log ≡ (before ++ line ∷ []) ++ later
-        → LinesMean (before ++ line ∷ []) (past ++ Some stamped ∷ []) → Some d ≡ direction_of settings stamped.frame.id
+        (c : Channel) → log_lines log ≡ (before ++ line ∷ []) ++ later
+        → LinesMean (before ++ line ∷ []) (past ++ Some stamped ∷ []) → Some c ≡ channel_by settings stamped.frame.id
         → (messages limit (trace settings (past ++ Some stamped ∷ [])) ≡ messages limit (trace settings past) → Needs) → Needs
-    completed_or_on before later line past stamped d parts means is on =
-        by (verdict limit (trace settings past) (entry_in past stamped d)).verdict refl
+    completed_or_on before later line past stamped c parts means is on =
+        by (verdict limit (trace settings past) (entry_in past stamped c)).verdict refl
       where
-        by : (told : VerdictValue) → told ≡ (verdict limit (trace settings past) (entry_in past stamped d)).verdict → Needs
+        by : (told : VerdictValue) → told ≡ (verdict limit (trace settings past) (entry_in past stamped c)).verdict → Needs
         by (message bytes) told = record {
           before = past;
           line = Some stamped;
-          frame = entry_in past stamped d;
+          frame = entry_in past stamped c;
           begins = record { lines = before ++ line ∷ []; later = later; parts = parts; means = means };
-          own = trace_next settings past (Some stamped) stamped d refl is;
+          own = trace_next settings past (Some stamped) stamped c refl is;
           holds = inr (bytes, sym told);
         }
-        by began told = on (no_message_more past stamped d is (ap (told_message d) (sym told)))
-        by stored told = on (no_message_more past stamped d is (ap (told_message d) (sym told)))
-        by flowed told = on (no_message_more past stamped d is (ap (told_message d) (sym told)))
-        by (dropped reason) told = on (no_message_more past stamped d is (ap (told_message d) (sym told)))
+        by began told = on (no_message_more past stamped c is (ap (told_message (dir_of c)) (sym told)))
+        by stored told = on (no_message_more past stamped c is (ap (told_message (dir_of c)) (sym told)))
+        by flowed told = on (no_message_more past stamped c is (ap (told_message (dir_of c)) (sym told)))
+        by (dropped reason) told = on (no_message_more past stamped c is (ap (told_message (dir_of c)) (sym told)))
 
     -- the next line has such a frame, or the messages are the same behind it
     line_or_on : (before later : List (List ℕ)) (line : List ℕ) (past : List (Option Stamped)) (what : Option Stamped)
@@ -81,11 +82,11 @@ module _ (limit : ℕ) (settings : Settings) where
         → LinesMean (before ++ line ∷ []) (past ++ what ∷ [])
         → (messages limit (trace settings (past ++ what ∷ [])) ≡ messages limit (trace settings past) → Needs) → Needs
     line_or_on before later line past None parts means on = on (ap (messages limit) (trace_same_blank settings past None refl))
-    line_or_on before later line past (Some stamped) parts means on = by (direction_of settings stamped.frame.id) refl
+    line_or_on before later line past (Some stamped) parts means on = by (channel_by settings stamped.frame.id) refl
       where
-        by : (d : Option Dir) → d ≡ direction_of settings stamped.frame.id → Needs
+        by : (c : Option Channel) → c ≡ channel_by settings stamped.frame.id → Needs
         by None is = on (ap (messages limit) (trace_same_foreign settings past (Some stamped) stamped refl is))
-        by (Some d) is = completed_or_on before later line past stamped d parts means is on
+        by (Some c) is = completed_or_on before later line past stamped c parts means is on
 
     -- so it is of all lines behind those without messages
     completed_behind : (before later : List (List ℕ)) (past meanings : List (Option Stamped))

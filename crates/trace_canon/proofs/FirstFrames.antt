@@ -2,7 +2,7 @@
 use Prim.Native.Nat.{zero, suc}
 use Rattle.std.proofs.Common.{◌≡◌, ℕ, ◌<◌, true, false, List, [], ◌∷◌, ◌++◌, length, arith, refl, sym, ◌∙◌, ap}
 use Rattle.std.specs.Prelude.{if◌then◌else◌}
-use Rattle.direction.specs.declared.Dir.{Dir}
+use Rattle.isotp_receive.specs.declared.channel.Channel.{Channel}
 use Rattle.isotp_receive.specs.Trace.{Entry, At, FirstFrame, FrameRole, single, first, consecutive, continue_or_wait, overflow, no_part, role}
 use Rattle.isotp_receive.specs.Places.{bytes_in_first, between, consecutive_frames_in}
 use Rattle.isotp_receive.specs.OnTime.{IsOnTime}
@@ -13,14 +13,14 @@ use Rattle.trace_canon.specs.Laws.{BeginsWithItsReception, BeginsWithItsFrame}
 use Rattle.trace_canon.proofs.NextStarts.{last_start_more}
 
 -- where no frame starts a message, the last start is the one before
-none_starts : (d : Dir) (x : Entry) (T : List Entry)
+none_starts : (d : Channel) (x : Entry) (T : List Entry)
     → ((position : ℕ) (g : Entry) → At T position g → starts_message (role d g) ≡ false) → last_start d x T ≡ x
 none_starts d x [] none = refl
 none_starts d x (g ∷ rest) none =
     ap (λ b. last_start d (if b then g else x) rest) (none zero g refl) ∙ none_starts d x rest (λ position h there. none (suc position) h there)
 
 -- the last start is the one that no other follows
-last_at : (d : Dir) (x : Entry) (T : List Entry) (begun : ℕ) (f : Entry) → At T begun f → starts_message (role d f) ≡ true
+last_at : (d : Channel) (x : Entry) (T : List Entry) (begun : ℕ) (f : Entry) → At T begun f → starts_message (role d f) ≡ true
     → ((position : ℕ) (g : Entry) → begun < position → At T position g → starts_message (role d g) ≡ false) → last_start d x T ≡ f
 last_at d x [] begun f there is none = absurd (cc)
 last_at d x (g ∷ rest) zero f there is none =
@@ -54,18 +54,18 @@ pub begins_with_its_reception : BeginsWithItsReception
 begins_with_its_reception limit T e bytes message =
     let o = message.fit.is_open in
     let next = message.fit.next in
-    let goes_on : starts_message (role e.dir e) ≡ false =
-    ap (λ (y : Entry). starts_message (role e.dir y)) (sym (here T e next.entry next.stands)) ∙ ap starts_message next.kind in
-    last_start_more e.dir e T e ∙ ap (λ b. if b then e else last_start e.dir e T) goes_on
-    ∙ last_at e.dir e T message.fit.begun o.begins.entry
+    let goes_on : starts_message (role e.channel e) ≡ false =
+    ap (λ (y : Entry). starts_message (role e.channel y)) (sym (here T e next.entry next.stands)) ∙ ap starts_message next.kind in
+    last_start_more e.channel e T e ∙ ap (λ b. if b then e else last_start e.channel e T) goes_on
+    ∙ last_at e.channel e T message.fit.begun o.begins.entry
     (sym (get-left T (e ∷ []) message.fit.begun o.later) ∙ o.begins.stands) (ap starts_message o.begins.kind)
     (λ position g later at. open_by o.begins.start (bytes_in_first o.begins.entry.frame.bytes) o.count
-    (consecutive_frames_in e.dir (between (T ++ e ∷ []) message.fit.begun position))
-    (IsOnTime (T ++ e ∷ []) e.dir message.fit.begun position g) (role e.dir g)
+    (consecutive_frames_in e.channel (between (T ++ e ∷ []) message.fit.begun position))
+    (IsOnTime (T ++ e ∷ []) e.channel message.fit.begun position g) (role e.channel g)
     (o.each position g later (within T position g at) (get-left T (e ∷ []) position (within T position g at) ∙ at)))
 
 pub begins_with_its_frame : BeginsWithItsFrame
 begins_with_its_frame T e bytes one =
-    let starting : starts_message (role e.dir e) ≡ true =
-    ap (λ (y : Entry). starts_message (role e.dir y)) (sym (here T e one.entry one.stands)) ∙ ap starts_message one.kind in
-    last_start_more e.dir e T e ∙ ap (λ b. if b then e else last_start e.dir e T) starting
+    let starting : starts_message (role e.channel e) ≡ true =
+    ap (λ (y : Entry). starts_message (role e.channel y)) (sym (here T e one.entry one.stands)) ∙ ap starts_message one.kind in
+    last_start_more e.channel e T e ∙ ap (λ b. if b then e else last_start e.channel e T) starting

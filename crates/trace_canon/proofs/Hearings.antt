@@ -18,10 +18,10 @@ use Rattle.trace_log.specs.Settings.{Settings}
 use Rattle.trace_log.specs.Feeding.{FeedsLog, FeedsSome, Took, Stopped, StopsWithin}
 use Rattle.trace_canon.specs.proving.Hearing.{HasHeard}
 use Rattle.trace_run.specs.Stopping.{CantBeRead}
-use Rattle.uds_find.specs.Asking.{HasAsking, NeedsMemory}
+use Rattle.uds_find.specs.Asking.{HasKept, NeedsMemory}
 use Rattle.uds_find.specs.Credit.{HasCredit}
 use Rattle.uds_find.specs.Finding.{FinderValue, StandsAfter}
-use Rattle.uds_find.proofs.Promises.{credit_has_asking, need_has_asking}
+use Rattle.uds_find.proofs.Promises.{asking_is_kept, credit_has_asking, need_has_kept}
 use Rattle.trace_log.proofs.Promises.{all_begin, begins_with_lines, bad_counts, no_place_counts, bad_in_front, bad_at_end}
 
 -- ---- one line more
@@ -71,10 +71,10 @@ module _ (meanings : List (Option Stamped)) (what : Option Stamped) where
   -- one that needs memory
   pub heard_first : (stamped : Stamped) (old : FinderValue) (lines : ℕ) → what ≡ Some stamped
       → ((frames : List FrameValue) → StandsAfter frames old → NeedsMemory frames stamped.frame)
-      → HasHeard meanings old lines → HasAsking (frames_in (meanings ++ what ∷ []))
+      → HasHeard meanings old lines → HasKept (frames_in (meanings ++ what ∷ []))
   heard_first stamped old lines is needs heard =
-      subst HasAsking (sym (frames_more stamped is))
-      (need_has_asking (frames_in meanings) stamped.frame (needs (frames_in meanings) heard.stands))
+      subst HasKept (sym (frames_more stamped is))
+      (need_has_kept (frames_in meanings) stamped.frame (needs (frames_in meanings) heard.stands))
 
 -- ---- a whole log
 
@@ -89,7 +89,7 @@ abbrev BrokeHeard : Took Heard
 BrokeHeard s meanings t = ⊥
 
 abbrev StoppedHeard : Stopped Heard
-StoppedHeard s meanings what why t = HasHeard [] s.0.finder s.0.lines → (why ≡ fault.Memory) × HasAsking (frames_in (meanings ++ what ∷ []))
+StoppedHeard s meanings what why t = HasHeard [] s.0.finder s.0.lines → (why ≡ fault.Memory) × HasKept (frames_in (meanings ++ what ∷ []))
 
 module _ (settings : Settings) (log : List ℕ) (given : ℕ) (start now : Heard) (begun : HasHeard [] start.0.finder start.0.lines) where
   -- why it was not read to its end
@@ -144,7 +144,11 @@ module _ (settings : Settings) (log : List ℕ) (meanings : List (Option Stamped
   pub heard_end_need : (result : Result FoundCreditLines Fault) → IfErr result (λ why. HasCredit (frames_in meanings))
       → result ≡ Err fault.Memory → NeedsMemoryToFind log
   heard_end_need (Ok found) needs is = absurd (cc is)
-  heard_end_need (Err why) needs is = (meanings, all_begin log meanings means, credit_has_asking (frames_in meanings) needs)
+  heard_end_need (Err why) needs is = (
+    meanings,
+    all_begin log meanings means,
+    asking_is_kept (frames_in meanings) (credit_has_asking (frames_in meanings) needs),
+  )
 
 -- before the first line
 pub heard_none : (finder : FinderValue) (lines : ℕ) → StandsAfter [] finder → lines ≡ 0 → HasHeard [] finder lines

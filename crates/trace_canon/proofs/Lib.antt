@@ -12,6 +12,7 @@ pub mod CanonicalSayings
 pub mod CanonicalMachines
 pub mod SaidCanonicalLogs
 pub mod CanonicalScripts
+pub mod Sides
 pub mod MovedStarts
 pub mod NextStarts
 pub mod FirstFrames

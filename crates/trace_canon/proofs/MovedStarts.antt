@@ -1,13 +1,17 @@
 -- Where the receptions that stand began, moved by what one frame does.
 use Rattle.std.proofs.Common.{◌≡◌, Bool, true, false, List, [], ℕ, Option, None, Some, refl}
-use Rattle.std.specs.Prelude.{if◌then◌else◌}
+use Rattle.std.specs.Prelude.{unwrap_or, if◌then◌else◌}
 use Rattle.direction.specs.declared.Dir.{Dir}
 use Rattle.direction.specs.declared.Dir.TheVariants.{Tester, Unit}
+use Rattle.isotp_receive.specs.Channels.{dir_of}
 use Rattle.isotp_receive.specs.declared.TheConstants.{MESSAGE_LIMIT}
+use Rattle.isotp_receive.specs.declared.channel.Channel.{Channel}
+use Rattle.isotp_receive.specs.declared.channel.Channel.TheVariants as on
+use Rattle.isotp_receive.specs.declared.channel.Channel.TheVariants.{Functional}
 use Rattle.isotp_receive.specs.declared.event.Reason.{Reason}
 use Rattle.isotp_receive.specs.Trace.{same_direction}
-use Rattle.isotp_receive.specs.Verdict.{message, began, stored, flowed, dropped}
-use Rattle.trace_canon.specs.ReceptionStarts.{AreStartsAfter, reception_start, start_after_verdict}
+use Rattle.isotp_receive.specs.Verdict.{EventValue, message, began, stored, flowed, dropped}
+use Rattle.trace_canon.specs.ReceptionStarts.{AreStartsAfter, reception_start, still_begun, start_after_event, start_after_verdict, message_start}
 use Rattle.trace_canon.specs.declared.reception_starts.FramePlace.{FramePlace}
 use Rattle.trace_canon.specs.declared.reception_starts.ReceptionStarts.{ReceptionStarts}
 
@@ -52,3 +56,35 @@ module _ (here : FramePlace) (begun : Option FramePlace) where
   pub on_drop : (own : Bool) (reason : Reason) → begun ≡ start_after_verdict own (dropped reason) here begun
   on_drop true reason = refl
   on_drop false reason = refl
+
+-- A frame to all units moves none, and a message to them begins with it.
+pub moved_by_all : (channel : Channel) (d : Dir) (event : EventValue) (here : FramePlace) (begun : Option FramePlace) → channel ≡ Functional
+    → still_begun d event.ended begun ≡ start_after_event d channel event here begun
+moved_by_all Functional Tester event here begun is = refl
+moved_by_all Functional Unit event here begun is = refl
+moved_by_all on.Tester d event here begun is = absurd (cc)
+moved_by_all on.Unit d event here begun is = absurd (cc)
+
+pub first_here : (channel : Channel) (event : EventValue) (here : FramePlace) (begun : Option FramePlace) → channel ≡ Functional
+    → here ≡ message_start channel event here begun
+first_here Functional event here begun is = refl
+first_here on.Tester event here begun is = absurd (cc)
+first_here on.Unit event here begun is = absurd (cc)
+
+-- Any other frame moves that of its side, and a message of it begins where that stood.
+pub moved_on : (channel : Channel) (sender d : Dir) (event : EventValue) (here : FramePlace) (begun : Option FramePlace) → sender ≡ dir_of channel
+    → (channel ≡ Functional → ⊥)
+    → start_after_verdict (same_direction d sender) event.verdict here (still_begun d event.ended begun) ≡ start_after_event d channel event here begun
+moved_on on.Tester sender Tester event here begun is apart = rw is refl
+moved_on on.Tester sender Unit event here begun is apart = rw is refl
+moved_on on.Unit sender Tester event here begun is apart = rw is refl
+moved_on on.Unit sender Unit event here begun is apart = rw is refl
+moved_on Functional sender d event here begun is apart = absurd (apart refl)
+
+pub first_on : (channel : Channel) (sender : Dir) (event : EventValue) (here : FramePlace) (starts : ReceptionStarts) → sender ≡ dir_of channel
+    → (channel ≡ Functional → ⊥)
+    → unwrap_or (still_begun sender event.ended (reception_start starts sender)) here
+    ≡ message_start channel event here (reception_start starts (dir_of channel))
+first_on on.Tester sender event here starts is apart = rw is refl
+first_on on.Unit sender event here starts is apart = rw is refl
+first_on Functional sender event here starts is apart = absurd (apart refl)

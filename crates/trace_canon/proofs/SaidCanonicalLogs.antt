@@ -10,6 +10,7 @@ use Rattle.std.proofs.Common.{◌++◌, length, drop, ap, sym, ◌∙◌, append
 use Rattle.std.proofs.Math.Seq.{drop-append_seam}
 use Rattle.std.proofs.lemmas.Bool.{le-leb, lt-leb}
 use Rattle.can_log.specs.declared.frame.Stamped.{Stamped}
+use Rattle.isotp_receive.specs.Channels.{dir_of}
 use Rattle.isotp_receive.specs.declared.TheConstants.{MESSAGE_LIMIT}
 use Rattle.isotp_receive.specs.Trace.{Entry}
 use Rattle.isotp_receive.specs.Verdict.{told_message, verdict}
@@ -46,7 +47,7 @@ module _ (settings : Settings) where
   one_more T e =
       let M = messages_under settings.rules MESSAGE_LIMIT T in
       let now = messages_under settings.rules MESSAGE_LIMIT (T ++ e ∷ []) in
-      let grows = early_grows M (under settings.rules (told_message e.dir (verdict MESSAGE_LIMIT T e).verdict)) in
+      let grows = early_grows M (under settings.rules (told_message (dir_of e.channel) (verdict MESSAGE_LIMIT T e).verdict)) in
       let longer : early now ≡ early M ++ grows.0 = ap early (messages_under_more settings.rules MESSAGE_LIMIT T e) ∙ grows.1 in
       let left : drop (length (early M)) (early now) ≡ grows.0 =
       ap (drop (length (early M))) longer ∙ drop-append_seam (early M) grows.0 in

@@ -1,25 +1,24 @@
 -- Equal lists are those of one meaning.
-use Rattle.std.proofs.Common.{◌≡◌, ℕ, ◌≤◌, true, List, [], ◌∷◌, ◌++◌, Option, Some, None, refl, ap, sym, ◌∙◌, subst}
-use Rattle.std.specs.List.{AllByRecursion, list_all}
+use Rattle.std.proofs.Common.{◌≡◌, ℕ, ◌≤◌, true, List, [], ◌∷◌, Option, Some, None, ap, sym, ◌∙◌, subst}
+use Rattle.std.specs.List.{AllByRecursion}
 use Rattle.std.specs.Cmp.Lexicographic.{same_text}
-use Rattle.std.proofs.lemmas.Bool.{and_parts, false≢true}
+use Rattle.std.proofs.lemmas.Bool.{false≢true}
 use Rattle.can_log.specs.Frame.{AreBytes}
 use Rattle.can_log.proofs.Promises.{AllByRecursion-front, AllByRecursion-back, AllByRecursion-tested, AllByRecursion-weaker}
 use Rattle.direction.specs.Dir.{Message}
 use Rattle.uds_exchange.specs.Meaning.{ItemValue, messages_of, flattened}
 use Rattle.uds_rules.specs.Laws.{is_made_of, stays}
-use Rattle.uds_rules.specs.Rule.{RuleValue, made_of}
-use Rattle.trace_log.specs.Laws.{HaveSameMeaning}
+use Rattle.uds_rules.specs.Rule.{made_of}
 use Rattle.trace_log.specs.Messages.{HasMeaning}
 use Rattle.trace_log.specs.Settings.{Settings, AreSettings}
 use Rattle.trace_log.proofs.Promises.{one_meaning, meaning_holds_bytes, meaning_stays}
-use Rattle.trace_text.specs.ItemLines.{list_text}
 use Rattle.trace_text.specs.Laws.{IsOfBytes, IsLeftBy}
 use Rattle.trace_text.proofs.Promises.{equal_lists_have_equal_texts}
 use Rattle.trace_canon.specs.ListLaws.{SameMeaningSameList}
 
 -- what holds of each message of some items holds of those of each item
-of_each : (P : Message → Type 0) (items : List ItemValue) → AllByRecursion P (flattened items) → AllByRecursion (λ item. AllByRecursion P (messages_of item)) items
+of_each : (P : Message → Type 0) (items : List ItemValue) → AllByRecursion P (flattened items)
+    → AllByRecursion (λ item. AllByRecursion P (messages_of item)) items
 of_each P [] all = tt
 of_each P (item ∷ items) all = (
   AllByRecursion-front P (messages_of item) (flattened items) all,
@@ -30,7 +29,8 @@ made_as : (made : Option (List ℕ)) (message : List ℕ) → is_made_of made me
 made_as None message is = absurd (false≢true is)
 made_as (Some shown) message is = ap Some (same_text shown message (sym is))
 
-of_bytes : (limit : ℕ) (settings : Settings) (log : List ℕ) (items : List ItemValue) → 64 ≤ limit → HasMeaning limit settings log items → AllByRecursion IsOfBytes items
+of_bytes : (limit : ℕ) (settings : Settings) (log : List ℕ) (items : List ItemValue) → 64 ≤ limit
+    → HasMeaning limit settings log items → AllByRecursion IsOfBytes items
 of_bytes limit settings log items least has = of_each (λ (sent : Message). AreBytes sent.1) items (meaning_holds_bytes limit settings log items least has)
 
 left_by : (limit : ℕ) (settings : Settings) (log : List ℕ) (items : List ItemValue) → AreSettings settings → HasMeaning limit settings log items

@@ -5,6 +5,7 @@ use Rattle.std.proofs.Common.{ap, sym, subst, ◌∙◌, append-nil, append_asso
 use Rattle.std.proofs.Math.Seq.{drop-append_seam}
 use Rattle.std.specs.Prelude.{OnOk}
 use Rattle.direction.specs.Dir.{Message}
+use Rattle.isotp_receive.specs.Channels.{dir_of}
 use Rattle.isotp_receive.specs.declared.TheConstants.{MESSAGE_LIMIT}
 use Rattle.isotp_receive.specs.Trace.{Entry}
 use Rattle.isotp_receive.specs.Verdict.{messages, told_message, verdict}
@@ -175,7 +176,7 @@ module _ (style : ItemStyle) (limit : ℕ) (rules : List RuleValue) where
       ≡ list_text rules style (decided_of limit rules (T ++ e ∷ []))
   next_said T e =
       let M = messages_under rules limit T in
-      let grows = decided_grows M (under rules (told_message e.dir (verdict limit T e).verdict)) in
+      let grows = decided_grows M (under rules (told_message (dir_of e.channel) (verdict limit T e).verdict)) in
       let longer : decided_of limit rules (T ++ e ∷ []) ≡ decided M ++ grows.0 =
       ap decided (messages_under_more rules limit T e) ∙ grows.1 in
       let left : newly_decided limit rules T e ≡ grows.0 =

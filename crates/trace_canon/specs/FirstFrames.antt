@@ -1,7 +1,7 @@
 -- Where a frame stands, and which frame is the first one of a message. A *place* is that of a frame: its line and its
 -- time.
 use Rattle.std.specs.Prelude.{◌≡◌, ℕ, Bool, true, false, List, [], ◌∷◌, ◌++◌, if◌then◌else◌}
-use Rattle.direction.specs.declared.Dir.{Dir}
+use Rattle.isotp_receive.specs.declared.channel.Channel.{Channel}
 use Rattle.isotp_receive.specs.Trace.{Entry, FrameRole, single, first, consecutive, continue_or_wait, overflow, no_part, role}
 use Rattle.isotp_receive.specs.Verdict.{message, verdict}
 use Rattle.trace_canon.specs.declared.reception_starts.FramePlace.{FramePlace}
@@ -19,8 +19,8 @@ starts_message continue_or_wait = false
 starts_message overflow = false
 starts_message no_part = false
 
--- the last of these frames that starts a message of the direction; the frame `earlier` where none of them does
-abbrev pub last_start : Dir → Entry → List Entry → Entry
+-- the last of these frames that starts a message of the channel; the frame `earlier` where none of them does
+abbrev pub last_start : Channel → Entry → List Entry → Entry
 last_start d earlier [] = earlier
 last_start d earlier (e ∷ rest) = last_start d (if starts_message (role d e) then e else earlier) rest
 
@@ -30,4 +30,4 @@ CompletesMessage limit T e = (bytes : List ℕ) × ((verdict limit T e).verdict 
 
 -- the first frame of a message that the frame e completes after the frames T: no other one starts between the two
 abbrev pub first_frame : List Entry → Entry → Entry
-first_frame T e = last_start e.dir e (T ++ e ∷ [])
+first_frame T e = last_start e.channel e (T ++ e ∷ [])

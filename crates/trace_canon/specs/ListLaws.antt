@@ -6,8 +6,8 @@ use Rattle.trace_log.specs.Settings.{Settings, AreSettings}
 use Rattle.trace_log.specs.declared.summary.Summary.{Summary}
 use Rattle.trace_text.specs.declared.item_style.ItemStyle.{ItemStyle}
 
--- Two accepted logs have one meaning under the settings, and so under their rules, exactly where their lists are equal: in
--- each notation, with numbers and without.
+-- Two accepted logs have one meaning under the settings, and so under their rules, exactly where their lists are
+-- equal: in each notation, with numbers and without.
 abbrev pub SameMeaningSameList : Type 0
 SameMeaningSameList = (limit : ℕ) (settings : Settings) (style : ItemStyle) → IsMessageLimit limit → AreSettings settings
     → (a b one other : List ℕ) (of_one of_other : Summary)

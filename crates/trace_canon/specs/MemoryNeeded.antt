@@ -2,6 +2,7 @@
 use Rattle.std.specs.Prelude.{◌≡◌, ℕ, ◌⊎◌, List, Option, Some}
 use Rattle.can_log.specs.declared.frame.Stamped.{Stamped}
 use Rattle.direction.specs.Dir.{Message}
+use Rattle.isotp_receive.specs.Channels.{dir_of}
 use Rattle.isotp_receive.specs.Trace.{Entry}
 use Rattle.isotp_receive.specs.Verdict.{message, verdict}
 use Rattle.uds_exchange.specs.Decider.{IsKept}
@@ -12,13 +13,13 @@ use Rattle.trace_log.specs.Settings.{Settings}
 use Rattle.trace_log.specs.Needing.{BeginsWithLines, HasFrame, IsKeptOrMasked}
 use Rattle.trace_canon.specs.Heard.{frames_in}
 use Rattle.trace_canon.specs.FirstFrames.{CompletesMessage}
-use Rattle.uds_find.specs.Asking.{HasAsking}
+use Rattle.uds_find.specs.Asking.{HasKept}
 
 -- The frame completes a message of which rules leave one that is such behind the messages so far.
 abbrev pub CompletesSuch : (List Message → Message → Type 0) → ℕ → List RuleValue → List Entry → Entry → Type 0
 CompletesSuch IsSuch limit rules T e =
     (whole : List ℕ) × (bytes : List ℕ) × ((verdict limit T e).verdict ≡ message whole) × (made_of rules whole ≡ Some bytes)
-    × IsSuch (messages_under rules limit T) (e.dir, bytes)
+    × IsSuch (messages_under rules limit T) (dir_of e.channel, bytes)
 
 -- The frame completes a message that is held: a stray behind a request that waits for its answer.
 abbrev pub CompletesHeld : ℕ → List RuleValue → List Entry → Entry → Type 0
@@ -38,6 +39,6 @@ abbrev pub NeedsMemoryToCollect : ℕ → Settings → List ℕ → Type 0
 NeedsMemoryToCollect limit settings =
     HasFrame (λ T e. IsKeptOrMasked limit settings.rules T e ⊎ CompletesMessage limit T e) settings
 
--- the first lines of the log have a frame that asks: each identifier that does is kept, and then who answers it
+-- the first lines of the log have a frame whose identifier is kept: one that asks, or a functional one
 abbrev pub NeedsMemoryToFind : List ℕ → Type 0
-NeedsMemoryToFind log = (meanings : List (Option Stamped)) × BeginsWithLines log meanings × HasAsking (frames_in meanings)
+NeedsMemoryToFind log = (meanings : List (Option Stamped)) × BeginsWithLines log meanings × HasKept (frames_in meanings)

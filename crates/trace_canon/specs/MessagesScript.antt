@@ -1,8 +1,9 @@
 -- What `messages` writes: a line for each message that is delivered and that rules leave, in the order of delivery, in
 -- words or as an object of JSON, with the places of the first frame of the message and of its last one.
-use Rattle.std.specs.Prelude.{ℕ, false, List, [], ◌++◌, codes, Option, Some, None}
+use Rattle.std.specs.Prelude.{ℕ, Bool, true, false, List, [], ◌++◌, codes, Option, Some, None, if◌then◌else◌}
 use Rattle.std.specs.Fmt.{decimal}
 use Rattle.direction.specs.Dir.{Message}
+use Rattle.isotp_receive.specs.Channels.{dir_of, is_functional}
 use Rattle.isotp_receive.specs.Trace.{Entry}
 use Rattle.isotp_receive.specs.Verdict.{VerdictValue, message, began, stored, flowed, dropped, verdict}
 use Rattle.uds_rules.specs.Rule.{RuleValue, made_of}
@@ -23,7 +24,7 @@ use Rattle.trace_text.specs.Words.{direction_text, role_text, stamp_text}
 -- the lines and the stamps of the first frame of a message and of its last one
 abbrev pub extent_text : FrameExtent → List ℕ
 extent_text extent =
-    codes " lines " ++ decimal extent.first.line ++ codes " to " ++ decimal extent.last.line
+    codes "lines " ++ decimal extent.first.line ++ codes " to " ++ decimal extent.last.line
     ++ codes " at " ++ stamp_text extent.first.micros ++ codes " to " ++ stamp_text extent.last.micros
 
 -- A message that is delivered and that rules leave, with its item and its frames.
@@ -45,7 +46,16 @@ judged_at judged extent =
 abbrev pub placed_line : List RuleValue → PlacedMessage → List ℕ
 placed_line rules placed =
     decimal placed.number ++ codes " " ++ role_text placed.step ++ codes " " ++ direction_text placed.sent.0
-    ++ extent_text placed.extent ++ codes " " ++ ruled_text rules placed.sent.1 ++ codes "\n"
+    ++ codes " " ++ extent_text placed.extent ++ codes " " ++ ruled_text rules placed.sent.1 ++ codes "\n"
+
+-- what marks a message to all units among the members of its object, and nothing else does
+abbrev pub functional_member : Bool → Members → Members
+functional_member true later = member (codes "functional") (json.truth true) later
+functional_member false later = later
+
+-- the mark as it is written behind another member
+abbrev pub functional_mark : Bool → List ℕ
+functional_mark to_all = if to_all then codes ",\"functional\":true" else []
 
 -- the members of the object of a placed message
 abbrev pub placed_members : List RuleValue → PlacedMessage → Members
@@ -56,7 +66,8 @@ placed_members rules placed =
     (member (codes "last_line") (json.number placed.extent.last.line)
     (member (codes "start") (json.string (stamp_text placed.extent.first.micros))
     (member (codes "end") (json.string (stamp_text placed.extent.last.micros))
-    (member (codes "message") (json.string (ruled_text rules placed.sent.1)) nothing)))))))
+    (functional_member placed.extent.is_functional
+    (member (codes "message") (json.string (ruled_text rules placed.sent.1)) nothing))))))))
 
 -- the line of a placed message in a notation
 abbrev pub placed_text : Notation → List RuleValue → PlacedMessage → List ℕ
@@ -70,14 +81,14 @@ placed_behind M sent first last =
       number = number_after M sent;
       step = step_after M sent;
       sent = sent;
-      extent = record { first = place_of first; last = place_of last };
+      extent = record { first = place_of first; last = place_of last; is_functional = is_functional last.channel };
     }
 
 -- the line of the message that rules left of the one that the frame e completes after the frames T, if they left one
 abbrev pub left_line : Notation → ℕ → List RuleValue → List Entry → Entry → Option (List ℕ) → List ℕ
 left_line notation limit rules T e None = []
 left_line notation limit rules T e (Some bytes) =
-    placed_text notation rules (placed_behind (messages_under rules limit T) (e.dir, bytes) (first_frame T e) e)
+    placed_text notation rules (placed_behind (messages_under rules limit T) (dir_of e.channel, bytes) (first_frame T e) e)
 
 -- the line of the message that the frame e completes after the frames T, where it does this
 abbrev pub delivered_line : Notation → ℕ → List RuleValue → List Entry → Entry → VerdictValue → List ℕ

@@ -2,9 +2,12 @@
 use Rattle.std.specs.Prelude.{◌≡◌, ℕ, Bool, true, false, List, Option, Some, None, option_map, unwrap_or, if◌then◌else◌}
 use Rattle.direction.specs.declared.Dir.{Dir}
 use Rattle.direction.specs.declared.Dir.TheVariants.{Tester, Unit}
+use Rattle.isotp_receive.specs.Channels.{channel_of, same_channel}
 use Rattle.isotp_receive.specs.StandingReception.{StandingReception, stands}
 use Rattle.isotp_receive.specs.Trace.{Entry, same_direction}
 use Rattle.isotp_receive.specs.Verdict.{VerdictValue, message, began, stored, flowed, dropped, EventValue}
+use Rattle.isotp_receive.specs.declared.channel.Channel.{Channel}
+use Rattle.isotp_receive.specs.declared.channel.Channel.TheVariants as on
 use Rattle.isotp_receive.specs.declared.event.Ended.{Ended}
 use Rattle.trace_canon.specs.FirstFrames.{last_start, place_of}
 use Rattle.trace_canon.specs.declared.reception_starts.FramePlace.{FramePlace}
@@ -20,7 +23,8 @@ reception_start starts Unit = starts.unit
 abbrev pub IsBegunAt : ℕ → Dir → List Entry → Option FramePlace → Type 0
 IsBegunAt limit d T begun =
     (earlier : Entry)
-    → begun ≡ option_map (λ (standing : StandingReception). place_of (last_start d earlier T)) (stands limit d T)
+    → begun ≡ option_map (λ (standing : StandingReception). place_of (last_start (channel_of d) earlier T))
+    (stands limit (channel_of d) T)
 
 -- of both directions, this is where the receptions began that stand after the frames T
 abbrev pub AreStartsAfter : ℕ → List Entry → ReceptionStarts → Type 0
@@ -33,8 +37,7 @@ abbrev pub still_begun : Dir → Option Ended → Option FramePlace → Option F
 still_begun d None begun = begun
 still_begun d (Some ended) begun = if same_direction d ended.dir then None else begun
 
--- where a reception began, if one stands, after what became of a frame in this place, of the same direction or the
--- other one
+-- where a reception began, if one stands, after what became of a frame in this place, of its channel or of another
 abbrev pub start_after_verdict : Bool → VerdictValue → FramePlace → Option FramePlace → Option FramePlace
 start_after_verdict true (message bytes) here begun = None
 start_after_verdict true began here begun = Some here
@@ -43,12 +46,14 @@ start_after_verdict true flowed here begun = begun
 start_after_verdict true (dropped reason) here begun = begun
 start_after_verdict false did here begun = begun
 
--- where a reception of d began, if one stands, after all that a frame of this sender did in this place: the end first
-abbrev pub start_after_event : Dir → Dir → EventValue → FramePlace → Option FramePlace → Option FramePlace
-start_after_event d sender event here begun =
-    start_after_verdict (same_direction d sender) event.verdict here (still_begun d event.ended begun)
+-- where a reception of d began, if one stands, after all that a frame of this channel did in this place: the end first
+abbrev pub start_after_event : Dir → Channel → EventValue → FramePlace → Option FramePlace → Option FramePlace
+start_after_event d channel event here begun =
+    start_after_verdict (same_channel (channel_of d) channel) event.verdict here (still_begun d event.ended begun)
 
 -- where a message began that a frame completed: where its reception did, if one stood that the frame did not end, else
--- here
-abbrev pub message_start : Dir → EventValue → FramePlace → Option FramePlace → FramePlace
-message_start sender event here begun = unwrap_or (still_begun sender event.ended begun) here
+-- here; and here where the frame is to all units, whatever stands
+abbrev pub message_start : Channel → EventValue → FramePlace → Option FramePlace → FramePlace
+message_start on.Tester event here begun = unwrap_or (still_begun Tester event.ended begun) here
+message_start on.Unit event here begun = unwrap_or (still_begun Unit event.ended begun) here
+message_start on.Functional event here begun = here

@@ -2,12 +2,14 @@
 //!
 //! A *stretch* is what fills a long message: the full consecutive frames of its sender that stand one behind another.
 //! What the identifier gives of each of their lines is made once.
+
 ghost use Rattle.std.specs.Prelude.{◌≡◌, ◌≤◌, ℕ, List, ◌∷◌, length, false};
 ghost use Rattle.can_log.specs.Canonical.{canonical_line, canonical_name};
 ghost use Rattle.can_log.specs.declared.frame.Id.TheVariants.{Std, Ext};
 ghost use Rattle.direction.specs.declared.Dir.{Dir as DirValue};
 ghost use Rattle.isotp_receive.specs.declared.TheConstants.{MESSAGE_LIMIT};
-ghost use Rattle.isotp_segment.specs.CanonicalFrames.{IsFullNext, canonical_frames};
+ghost use Rattle.isotp_segment.specs.CanonicalFrames.{canonical_frames};
+ghost use Rattle.isotp_segment.specs.FullFrames.{FullFrameIsNext};
 ghost use Rattle.trace_log.specs.Settings.{id_of};
 ghost use Rattle.trace_canon.specs.proving.Saying.{SaysFront};
 ghost use Rattle.trace_canon.specs.proving.Writing.{filled_up, text_from, progress_after};
@@ -121,7 +123,7 @@ fn say_full_frames<'a, S: TextSink>(
     ensures no_more { length result ≤ length frames.entry }
 
     // What says no line of a stretch keeps `says`, too. This refuses it: a full frame is left only where none has room.
-    ensures misses_none { IsFullNext sender result → progress.new.room ≡ 0 }
+    ensures misses_none { FullFrameIsNext sender result → progress.new.room ≡ 0 }
 {
     match config.id_of(sender) {
         Id::Std(number) => {
@@ -167,7 +169,7 @@ fn say_stretch<'a, S: TextSink, const NAME: usize>(
     requires short { NAME ≤ EXTENDED_NAME }
     ensures says { SaysFront S.says config.now progress.old out.old frames.entry progress.new out.new result }
     ensures no_more { length result ≤ length frames.entry }
-    ensures misses_none { IsFullNext sender result → progress.new.room ≡ 0 }
+    ensures misses_none { FullFrameIsNext sender result → progress.new.room ≡ 0 }
 {
     let mut rest = frames;
     'stretch: while let Some(frame) = rest.next_full(sender) {

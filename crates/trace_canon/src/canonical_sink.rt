@@ -1,5 +1,6 @@
 //! Messages put one after another, each as its canonical lines, as soon as all that come before it are known: then it
 //! is *due*.
+
 ghost use Rattle.std.specs.Prelude.{◌≡◌, List, [], ◌∷◌, ◌++◌, OnOk, OnErr};
 ghost use Rattle.direction.specs.Dir.{Message};
 ghost use Rattle.isotp_receive.specs.declared.TheConstants.{MESSAGE_LIMIT};

@@ -3,6 +3,7 @@
 //!
 //! Once the canonical log is certainly longer than the limit, it lets go of all that it holds and takes no more. It
 //! reads on, since a later line may still refuse the log, and that refusal is what is told.
+
 ghost use Rattle.std.specs.Prelude.{◌≡◌, ◌+◌, ℕ, List, [], ◌∷◌, ◌++◌};
 ghost use Rattle.direction.specs.Dir.{Message};
 ghost use Rattle.isotp_receive.specs.declared.TheConstants.{MESSAGE_LIMIT};

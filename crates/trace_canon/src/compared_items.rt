@@ -1,11 +1,12 @@
 //! The item of a log in the place where two differ, in words and in JSON.
+
 ghost use Rattle.std.specs.Prelude.{ℕ, ◌+◌, List, Some, None, slice_get};
 ghost use Rattle.uds_exchange.specs.ItemSeen.{item_value};
 ghost use Rattle.trace_canon.specs.ComparisonText.{shown_text};
 ghost use Rattle.uds_rules.specs.Rule.{RuleValue};
 
+use text_parts::say;
 use trace_io::TextSink;
-use trace_text::values::say_text;
 use trace_text::{Notation, Numbering, say_item_object, say_worded_line};
 use uds_exchange::{Item, Meaning};
 use uds_rules::Rules;
@@ -52,7 +53,7 @@ fn say_nothing<S: TextSink>(notation: Notation, out: &mut S)
     ensures { (rules : List RuleValue) (number : ℕ) → S.says out.old (shown_text rules notation number None) out.new }
 {
     match notation {
-        Notation::Text => say_text(out, "nothing\n"),
-        Notation::Json => say_text(out, "null"),
+        Notation::Text => say(out, "nothing\n"),
+        Notation::Json => say(out, "null"),
     }
 }

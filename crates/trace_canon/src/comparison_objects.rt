@@ -1,4 +1,5 @@
 //! A comparison as an object of JSON.
+
 ghost use Rattle.trace_canon.specs.ComparisonText.{comparison_members, different_members, shown_members};
 ghost use Rattle.trace_text.specs.Json.{object_line};
 
@@ -6,7 +7,6 @@ use crate::compared_items::say_item_at;
 use crate::comparer::{Compared, Comparison};
 use text_parts::say;
 use trace_io::TextSink;
-use trace_text::values::say_text;
 use trace_text::{Notation, Ordinal};
 use uds_rules::Rules;
 
@@ -23,7 +23,7 @@ pub(crate) fn say_comparison_object<S: TextSink>(
         out.new }
 {
     match compared.comparison {
-        Comparison::Same => say_text(out, "{\"same\":true}\n"),
+        Comparison::Same => say(out, "{\"same\":true}\n"),
         Comparison::Different { item: place } if shows_items => {
             say_shown_object(compared, place, rules, out)
         }
@@ -45,7 +45,7 @@ fn say_shown_object<S: TextSink>(compared: &Compared, place: usize, rules: &Rule
         ("{\"same\":false,\"item\":", Ordinal(place), ",\"left\":"),
     );
     say_item_at(&compared.left.meaning, place, Notation::Json, rules, out);
-    say_text(out, ",\"right\":");
+    say(out, ",\"right\":");
     say_item_at(&compared.right.meaning, place, Notation::Json, rules, out);
-    say_text(out, "}\n");
+    say(out, "}\n");
 }

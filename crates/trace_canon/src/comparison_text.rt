@@ -1,4 +1,5 @@
 //! The text of a comparison, in words or as an object.
+
 ghost use Rattle.trace_canon.specs.ComparisonText.{comparison_lines, comparison_text, shown_lines};
 ghost use Rattle.trace_run.specs.Printed.{Prints};
 ghost use Rattle.trace_io.specs.Counted.{IsLowCount};
@@ -10,7 +11,6 @@ use text_parts::{Part, say};
 use trace_io::{Target, TextSink};
 use trace_log::Fault;
 use trace_run::print;
-use trace_text::values::say_text;
 use trace_text::{Notation, Ordinal};
 use uds_rules::Rules;
 
@@ -78,7 +78,7 @@ fn say_lines<S: TextSink>(compared: &Compared, shows_items: bool, rules: &Rules,
         out.new }
 {
     match compared.comparison {
-        Comparison::Same => say_text(out, "same\n"),
+        Comparison::Same => say(out, "same\n"),
         Comparison::Different { item: place } => {
             say(out, ("different at item ", Ordinal(place), "\n"));
             if shows_items {
@@ -93,8 +93,8 @@ fn say_items_at<S: TextSink>(compared: &Compared, place: usize, rules: &Rules, o
     ensures { S.says out.old
         (shown_lines rules.now place compared.now.left.meaning compared.now.right.meaning) out.new }
 {
-    say_text(out, "left: ");
+    say(out, "left: ");
     say_item_at(&compared.left.meaning, place, Notation::Text, rules, out);
-    say_text(out, "right: ");
+    say(out, "right: ");
     say_item_at(&compared.right.meaning, place, Notation::Text, rules, out);
 }

@@ -4,6 +4,7 @@ ghost use Rattle.std.specs.List.{flat_map};
 ghost use Rattle.trace_canon.specs.CreditLines.{credit_line_text, credit_lines_text, later_unit_text, most_later_units, profile_text};
 ghost use Rattle.trace_canon.specs.CreditLines.{answered_comment, unit_head, unit_identifiers, unit_text};
 
+use crate::functional_parts::{FunctionalKey, FunctionalMember, FunctionalOption};
 use text_parts::say;
 use trace_io::TextSink;
 use trace_text::{Notation, Number, Verbatim};
@@ -53,6 +54,7 @@ fn say_credit_line<S: TextSink>(line: &CreditLine, notation: Notation, out: &mut
                 Verbatim(line.tester.as_slice()),
                 " --unit ",
                 Verbatim(line.unit.as_slice()),
+                FunctionalOption(line),
                 "\n",
             ),
         ),
@@ -68,8 +70,10 @@ fn say_credit_line<S: TextSink>(line: &CreditLine, notation: Notation, out: &mut
                     Verbatim(line.tester.as_slice()),
                     "\",\"unit\":\"",
                     Verbatim(line.unit.as_slice()),
-                    "\"}\n",
+                    "\"",
                 ),
+                FunctionalMember(line),
+                "}\n",
             ),
         ),
     }
@@ -160,7 +164,7 @@ fn say_head<S: TextSink>(line: &CreditLine, out: &mut S)
     );
 }
 
-/// Says the identifiers of a unit.
+/// Says the identifiers of a unit, and the functional one, where there is one.
 #[tactic(auto, unfolding(crate::specs::CreditLines::unit_identifiers))]
 fn say_identifiers<S: TextSink>(line: &CreditLine, out: &mut S)
     ensures { S.says out.old (unit_identifiers line.now) out.new }
@@ -173,6 +177,7 @@ fn say_identifiers<S: TextSink>(line: &CreditLine, out: &mut S)
             "\"\nunit = \"",
             Verbatim(line.unit.as_slice()),
             "\"\n",
+            FunctionalKey(line),
         ),
     );
 }

@@ -1,4 +1,5 @@
 //! `explain`: a machine that says what became of each frame.
+
 ghost use Rattle.std.specs.Prelude.{ℕ, List, IfOk};
 ghost use Rattle.trace_io.specs.Counted.{IsLowCount};
 ghost use Rattle.isotp_receive.specs.EventSeen.{seen_event, seen_verdict};
@@ -8,7 +9,7 @@ ghost use Rattle.trace_log.specs.Laws.{Certifies};
 ghost use Rattle.trace_log.specs.Settings.{without_rules};
 ghost use Rattle.trace_run.specs.Ran.{RanLenient};
 ghost use Rattle.trace_run.specs.Script.{answers_counts, command, needs_none, says_no_refusal};
-ghost use Rattle.trace_canon.specs.ExplainScript.{dropped_text, end_text, ended_text, event_text, unfinished_line};
+ghost use Rattle.trace_canon.specs.ExplainScript.{dropped_text, ending_text, ended_text, event_text, unfinished_line};
 ghost use Rattle.trace_canon.specs.ExplainScript.{explain_script};
 
 use direction::Dir;
@@ -76,7 +77,13 @@ impl Machine for Explainer {
 
     #[inline(always)]
     fn event<S: TextSink>(&mut self, seen: Seen<'_>, out: &mut S) -> Result<(), AllocError> {
-        say_event(self.notation, seen.line, seen.dir, seen.event, out);
+        say_event(
+            self.notation,
+            seen.line,
+            seen.channel.dir(),
+            seen.event,
+            out,
+        );
         Ok(())
     }
 
@@ -142,7 +149,7 @@ fn say_dropped<S: TextSink>(
 
 /// Says what follows the lines of all frames: the receptions that stand, the tester's first, and the counts.
 fn say_end<S: TextSink>(notation: Notation, pair: &Pair, summary: &Summary, out: &mut S)
-    ensures { S.says out.old (end_text notation pair.now.receptions summary.now) out.new }
+    ensures { S.says out.old (ending_text notation pair.now.receptions summary.now) out.new }
 {
     say_unfinished(notation, Dir::Tester, pair.open(Dir::Tester), out);
     say_unfinished(notation, Dir::Unit, pair.open(Dir::Unit), out);
@@ -150,15 +157,10 @@ fn say_end<S: TextSink>(notation: Notation, pair: &Pair, summary: &Summary, out:
 }
 
 /// Says the line of a reception that stands, by the line and the announced length of its first frame, if one does.
-fn say_unfinished<S: TextSink>(
-    notation: Notation,
-    dir: Dir,
-    beginning: Option<(u64, u32)>,
-    out: &mut S,
-)
-    ensures { S.says out.old (unfinished_line notation dir beginning) out.new }
+fn say_unfinished<S: TextSink>(notation: Notation, dir: Dir, begun: Option<(u64, u32)>, out: &mut S)
+    ensures { S.says out.old (unfinished_line notation dir begun) out.new }
 {
-    if let Some((line, len)) = beginning {
+    if let Some((line, len)) = begun {
         say_remark(notation, Remark::Unfinished { dir, line, len }, out);
     }
 }

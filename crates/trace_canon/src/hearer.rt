@@ -1,6 +1,7 @@
 //! The credit lines of a log, for [`find`](crate::find), which writes them. What is *heard* is every frame, whatever
 //! its identifier: so this stands on the lines of a log, and no machine does it. What is *found* at the end are the
 //! credit lines, and the counts of the log.
+
 ghost use Rattle.std.specs.Prelude.{◌≡◌, List, ℕ, [], length, IfErr, IfOk, Option};
 ghost use Rattle.can_log.specs.declared.frame.Stamped.{Stamped as StampedValue};
 ghost use Rattle.trace_canon.specs.Finding.{GivesFound, IsFoundOf, summary_of_lines};
@@ -81,7 +82,7 @@ impl LineTaker for Hearer {
     ghost use Rattle.trace_canon.specs.Heard.{frames_in};
     ghost use Rattle.trace_log.specs.declared.fault.Fault.TheVariants.{Memory};
     ghost use Rattle.trace_canon.specs.proving.Hearing.{HasHeard};
-    ghost use Rattle.uds_find.specs.Asking.{HasAsking};
+    ghost use Rattle.uds_find.specs.Asking.{HasKept};
 
     type Device = ();
 
@@ -93,11 +94,11 @@ impl LineTaker for Hearer {
     ghost broke = { λ s meanings t. ⊥ };
 
     ghost stopped = { λ s meanings what fault t. HasHeard [] s.0.finder s.0.lines
-        → (fault ≡ Memory) × HasAsking (frames_in (meanings ++ what ∷ [])) };
+        → (fault ≡ Memory) × HasKept (frames_in (meanings ++ what ∷ [])) };
 
     ghost sure = { λ s first t. ⊤ };
 
-    ghost wants = { λ s first second. ⊥ };
+    ghost wants = { λ s wanted. ⊥ };
 
     fn wanted(&self) -> Option<&Wanted> {
         None

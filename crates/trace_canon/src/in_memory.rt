@@ -1,5 +1,6 @@
 //! What logs in memory are answered with: the meaning of one, or a text, with the counts of the log beside it. No
 //! device is asked: so what has no answer is refused, or memory was.
+
 ghost use Rattle.std.specs.Prelude.{◌≡◌, Ok, Err, MatchResult};
 ghost use Rattle.isotp_receive.specs.declared.TheConstants.{MESSAGE_LIMIT};
 ghost use Rattle.trace_canon.specs.InMemory.{IsCanonicalLogWith, IsListWith, AreMessageLinesWith, IsExplanationWith};

@@ -1,4 +1,5 @@
 //! A text of the items of a log, written once they are known: what a command says that needs the whole meaning.
+
 ghost use Rattle.std.specs.Prelude.{ℕ};
 ghost use Rattle.isotp_receive.specs.declared.TheConstants.{MESSAGE_LIMIT};
 ghost use Rattle.trace_canon.specs.ItemText.{RanOverItems};

@@ -36,10 +36,10 @@
 //! | [`compare`] | `comparer` | `Compared` |
 //! | [`write_comparison`] | `comparison_text`, `comparison_objects`, `compared_items` | `ComparisonText` |
 //! | [`list`], [`write_items`] | `lister`, `item_text` | `ItemText` |
-//! | [`find`] | `finder`, `hearer`, `credit_lines` | `Heard`, `Finding`, `CreditLines` |
+//! | [`find`] | `finder`, `hearer`, `credit_lines`, `functional_parts` | `Heard`, `Finding`, `CreditLines` |
 //! | where messages began, for [`messages`] and for a page | [`reception_starts`] | `FirstFrames`, `ReceptionStarts` |
 //! | over logs in memory, seven of these | [`in_memory`] | `InMemory` |
-//! | laws of [`watch`] and of [`messages`] | [`laws`] | `Laws` |
+//! | laws of [`watch`], [`messages`] and [`list`] | [`laws`] | `Laws`, `ListLaws` |
 //!
 //! How a log is read is in `WaysOfReading`, for which frames a command needs memory, in `MemoryNeeded`; what a run
 //! comes to that writes nothing, in `ReadOnly`, and what one that writes a text at the end, in `WrittenAtEnd`.
@@ -61,6 +61,7 @@ mod comparison_text;
 mod credit_lines;
 mod explainer;
 mod finder;
+mod functional_parts;
 mod hearer;
 pub mod in_memory;
 mod item_text;

@@ -1,4 +1,5 @@
 //! `list`: the items of a log, written once they are known.
+
 ghost use Rattle.isotp_receive.specs.declared.TheConstants.{MESSAGE_LIMIT};
 ghost use Rattle.trace_text.specs.ItemLines.{list_text};
 ghost use Rattle.trace_canon.specs.ItemText.{RanOverItems};

@@ -1,11 +1,12 @@
 //! The line of a message as an object of JSON.
+
 ghost use Rattle.trace_text.specs.Json.{object_line};
 ghost use Rattle.trace_canon.specs.MessagesScript.{judged_at, placed_members};
 
-use crate::message_parts::{FrameExtent, Role};
-use text_parts::say;
+use crate::message_parts::FrameExtent;
+use text_parts::{When, say};
 use trace_io::TextSink;
-use trace_text::{Number, RuledBytes, Sender, Stamp};
+use trace_text::{Number, Role, RuledBytes, Sender, Stamp};
 use uds_exchange::Judged;
 use uds_rules::Rules;
 
@@ -42,7 +43,9 @@ pub(crate) fn say_message_object<S: TextSink>(
                 Stamp(extent.last.micros),
             ),
             (
-                "\",\"message\":\"",
+                "\"",
+                When(extent.is_functional, ",\"functional\":true"),
+                ",\"message\":\"",
                 RuledBytes {
                     rules,
                     message: message.bytes,

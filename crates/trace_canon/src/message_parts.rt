@@ -1,31 +1,17 @@
-//! The parts of what `messages` says of a message.
+//! The frames of a message, as a part of what `messages` says of it.
+
 use crate::reception_starts::FramePlace;
 use text_parts::{Part, say};
 use trace_io::TextSink;
-use trace_text::names::role_name;
 use trace_text::{Number, Stamp};
-use uds_exchange::Step;
-
-/// The role of a message in its item.
-#[derive(Clone, Copy)]
-pub(crate) struct Role(pub Step);
-
-impl Part for Role {
-    ghost use Rattle.trace_text.specs.Words.{role_text};
-
-    ghost text = { λ role. role_text role.0 };
-
-    #[inline(always)]
-    fn say<S: TextSink>(self, out: &mut S) {
-        say(out, role_name(self.0));
-    }
-}
 
 /// The first frame of a message and its last one: their lines and their times.
 #[derive(Clone, Copy)]
 pub(crate) struct FrameExtent {
     pub first: FramePlace,
     pub last: FramePlace,
+    /// Whether they are one frame that the tester sent to all units.
+    pub is_functional: bool,
 }
 
 impl Part for FrameExtent {
@@ -38,7 +24,7 @@ impl Part for FrameExtent {
         say(
             out,
             (
-                " lines ",
+                "lines ",
                 Number(self.first.line),
                 " to ",
                 Number(self.last.line),

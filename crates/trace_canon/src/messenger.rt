@@ -1,5 +1,6 @@
 //! `messages`: a machine that says the line of each message, as it is delivered: with the places of its first frame and
 //! of its last one, which are where these stand in the log.
+
 ghost use Rattle.isotp_receive.specs.declared.TheConstants.{MESSAGE_LIMIT};
 ghost use Rattle.trace_canon.specs.MessagesScript.{judged_at, placed_line, placed_text, messages_script};
 ghost use Rattle.trace_run.specs.Script.{answers_counts, command, needs_none, says_no_refusal};
@@ -8,7 +9,7 @@ ghost use Rattle.trace_io.specs.Counted.{IsLowCount};
 ghost use Rattle.trace_log.specs.Devices.{HasLowCounts};
 
 use crate::message_objects::say_message_object;
-use crate::message_parts::{FrameExtent, Role};
+use crate::message_parts::FrameExtent;
 use crate::reception_starts::{FramePlace, ReceptionStarts};
 use isotp_receive::Pair;
 use std::alloc::{AllocError, Global};
@@ -16,7 +17,7 @@ use text_parts::say;
 use trace_io::{Source, Target, TextSink};
 use trace_log::{Config, Fault, Summary};
 use trace_run::{Glimpse, Machine, NoAnswer, Seen, run_lenient};
-use trace_text::{Notation, Number, RuledBytes, Sender};
+use trace_text::{Notation, Number, Role, RuledBytes, Sender};
 use uds_exchange::Judged;
 use uds_rules::Rules;
 
@@ -84,9 +85,13 @@ impl<'a> Machine for Messenger<'a> {
             line: seen.line,
             micros: seen.micros,
         };
-        let first = self.starts.take(here, seen.dir, seen.event);
+        let first = self.starts.take(here, seen.channel, seen.event);
         if let Some(message) = seen.message {
-            let extent = FrameExtent { first, last: here };
+            let extent = FrameExtent {
+                first,
+                last: here,
+                is_functional: seen.channel.is_functional(),
+            };
             say_message(self.notation, self.rules, &message, extent, out);
         }
         Ok(())
@@ -143,6 +148,7 @@ fn say_message_line<S: TextSink>(
             Role(message.step),
             " ",
             Sender(message.dir),
+            " ",
             extent,
             " ",
             RuledBytes {

@@ -1,5 +1,6 @@
 //! `normalise`: a machine that says the canonical log. No other command writes one: so what it promises of that is no
 //! record that several commands share, but stands clause by clause at its call.
+
 ghost use Rattle.std.specs.Prelude.{◌≡◌, ◌++◌, ℕ, List, OnOk, IfOk, Err};
 ghost use Rattle.direction.specs.Dir.{Message};
 ghost use Rattle.trace_io.specs.Counted.{IsLowCount};

@@ -1,7 +1,9 @@
 //! Where the receptions that stand began, frame by frame. The page of `trace_report` stands on it, too.
-ghost use Rattle.std.specs.Prelude.{◌≡◌, List, [], ◌∷◌, ◌++◌, None, if◌then◌else◌};
+
+ghost use Rattle.std.specs.Prelude.{◌≡◌, List, [], ◌∷◌, ◌++◌, None, unwrap_or, if◌then◌else◌};
 ghost use Rattle.direction.specs.declared.Dir.{Dir as DirValue};
 ghost use Rattle.isotp_receive.specs.declared.TheConstants.{MESSAGE_LIMIT};
+ghost use Rattle.isotp_receive.specs.Channels.{dir_of};
 ghost use Rattle.isotp_receive.specs.EventSeen.{seen_event, seen_verdict};
 ghost use Rattle.isotp_receive.specs.Trace.{Entry, same_direction};
 ghost use Rattle.trace_run.specs.Seen.{IsEventOf};
@@ -10,7 +12,7 @@ ghost use Rattle.trace_canon.specs.ReceptionStarts.{AreStartsAfter, message_star
 ghost use Rattle.trace_canon.specs.ReceptionStarts as Spec;
 
 use direction::Dir;
-use isotp_receive::{Ended, Event, Verdict};
+use isotp_receive::{Channel, Ended, Event, Verdict};
 
 /// Where a frame stands: its line and its time in microseconds.
 #[derive(Clone, Copy, Debug)]
@@ -39,7 +41,7 @@ impl ReceptionStarts {
     }
 
     /// Where the reception of a direction began, if one stands.
-    pub fn of(&self, dir: Dir) -> Option<FramePlace>
+    fn of(&self, dir: Dir) -> Option<FramePlace>
         ensures { result ≡ reception_start self.now dir }
     {
         match dir {
@@ -49,22 +51,37 @@ impl ReceptionStarts {
     }
 
     /// Takes what a frame in this place did, and answers where the message began that it completed. Where it completed
-    /// none, the answer says nothing, and nobody reads it: an `Option` would be made and taken apart at each frame.
+    /// none, the answer says nothing, and nobody reads it: an `Option` would be made and taken apart at each frame. A
+    /// message to all units is one frame, and no start is moved by it.
     #[inline(always)]
-    pub fn take(&mut self, here: FramePlace, dir: Dir, event: Event<'_>) -> FramePlace
-        ensures begun { (T : List Entry) (e : Entry) → IsEventOf T e here.line here.micros dir event.entry
+    pub fn take(&mut self, here: FramePlace, channel: Channel, event: Event<'_>) -> FramePlace
+        ensures begun { (T : List Entry) (e : Entry) → IsEventOf T e here.line here.micros channel event.entry
             → AreStartsAfter MESSAGE_LIMIT T self.old → AreStartsAfter MESSAGE_LIMIT (T ++ e ∷ []) self.new }
-        ensures place { (T : List Entry) (e : Entry) → IsEventOf T e here.line here.micros dir event.entry
+        ensures place { (T : List Entry) (e : Entry) → IsEventOf T e here.line here.micros channel event.entry
             → AreStartsAfter MESSAGE_LIMIT T self.old → CompletesMessage MESSAGE_LIMIT T e
             → result ≡ place_of (first_frame T e) }
         ensures stands { (d : DirValue)
             → reception_start self.new d
-            ≡ start_after_event d dir (seen_event event.entry) here (reception_start self.old d) }
-        ensures first { result ≡ message_start dir (seen_event event.entry) here (reception_start self.old dir) }
+            ≡ start_after_event d channel (seen_event event.entry) here (reception_start self.old d) }
+        ensures first { result ≡ message_start channel (seen_event event.entry) here (reception_start self.old (dir_of channel)) }
     {
         self.end(event.ended);
+        match channel {
+            Channel::Functional => here,
+            _ => self.move_on(here, channel.dir(), event.verdict),
+        }
+    }
+
+    /// The same of a frame that a side sends to the other alone, apart from the reception that it ended.
+    #[inline(always)]
+    fn move_on(&mut self, here: FramePlace, dir: Dir, verdict: Verdict<'_>) -> FramePlace
+        ensures stands { (d : DirValue) → reception_start self.new d
+            ≡ start_after_verdict (same_direction d dir) (seen_verdict verdict.entry) here
+            (reception_start self.old d) }
+        ensures first { result ≡ unwrap_or (reception_start self.old dir) here }
+    {
         let begun = self.of(dir);
-        self.move_by(here, dir, event.verdict);
+        self.move_by(here, dir, verdict);
         begun.unwrap_or(here)
     }
 

@@ -1,4 +1,5 @@
 //! `watch`: a machine that says the line of each item as soon as it is decided.
+
 ghost use Rattle.std.specs.Prelude.{◌≡◌, ℕ, List, [], ◌∷◌, ◌++◌, OnOk, OnErr};
 ghost use Rattle.direction.specs.Dir.{Message};
 ghost use Rattle.isotp_receive.specs.declared.TheConstants.{MESSAGE_LIMIT};

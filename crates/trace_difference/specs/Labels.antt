@@ -1,18 +1,8 @@
 -- The names of files in a text that `patch` and `git apply` read.
 use Prim.Native.Char.{code}
-use Rattle.std.specs.Prelude.{ℕ, ◌+◌, ◌/◌, ◌%◌, ◌==◌, ◌&&◌, ◌||◌, not, nat_le, Bool, List, [], ◌∷◌, ◌++◌, codes, length, if◌then◌else◌}
-use Rattle.std.specs.Char.{is_ascii_alphanumeric}
-use Rattle.std.specs.List.{flat_map, list_all}
-
--- one of the bytes that need no quotes: letters, digits and `./_-+:@%,=`
-abbrev pub is_plain : ℕ → Bool
-is_plain b =
-    is_ascii_alphanumeric b || b == code "." || b == code "/" || b == code "_" || b == code "-" || b == code "+" || b == code ":" || b == code "@" || b == code "%" || b == code ","
-    || b == code "="
-
--- a name of plain bytes alone, one at least, needs no quotes
-abbrev pub is_plain_name : List ℕ → Bool
-is_plain_name name = not (length name == 0) && list_all is_plain name
+use Rattle.std.specs.Prelude.{ℕ, ◌+◌, ◌/◌, ◌%◌, ◌==◌, ◌&&◌, ◌||◌, nat_le, List, [], ◌∷◌, ◌++◌, codes, if◌then◌else◌}
+use Rattle.std.specs.List.{flat_map}
+use Rattle.line_text.specs.Quoted.{is_plain_name}
 
 -- the digit of a number below eight
 abbrev pub octal_digit : ℕ → ℕ

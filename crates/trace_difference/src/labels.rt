@@ -1,11 +1,11 @@
 //! The names of files in a text that `patch` and `git apply` read.
 ghost use Rattle.std.specs.Prelude.{◌≡◌, ◌<◌};
-ghost use Rattle.std.specs.List.{flat_map, list_all};
-ghost use Rattle.trace_difference.specs.Labels.{escaped, is_plain, is_plain_name, label, octal_digit, quoted};
+ghost use Rattle.std.specs.List.{flat_map};
+ghost use Rattle.trace_difference.specs.Labels.{escaped, label, octal_digit, quoted};
 
-use text_parts::Part;
+use line_text::is_plain_name;
+use text_parts::{Part, say};
 use trace_io::TextSink;
-use trace_text::values::say_text;
 
 /// The name of a file: as it is where it is plain, and else between quotes.
 #[derive(Clone, Copy)]
@@ -36,9 +36,9 @@ fn say_label<S: TextSink>(name: &[u8], out: &mut S)
 fn say_quoted<S: TextSink>(name: &[u8], out: &mut S)
     ensures { S.says out.old (quoted name.now) out.new }
 {
-    say_text(out, "\"");
+    say(out, "\"");
     say_escaped(name, out);
-    say_text(out, "\"");
+    say(out, "\"");
 }
 
 /// Says the bytes of a name between its quotes.
@@ -74,35 +74,4 @@ fn octal_digit(number: u8) -> u8
     ensures { result ≡ octal_digit number }
 {
     b'0' + number
-}
-
-/// Whether a name needs no quotes, neither here nor in a shell.
-pub fn is_plain_name(name: &[u8]) -> bool
-    ensures { result ≡ is_plain_name name.now }
-{
-    !name.is_empty() && are_plain(name)
-}
-
-/// Whether bytes stand as they are, each of them.
-fn are_plain(bytes: &[u8]) -> bool
-    ensures { result ≡ list_all is_plain bytes.now }
-{
-    bytes.iter().all(|byte| is_plain(*byte))
-}
-
-/// Whether a byte stands as it is in a name without quotes.
-fn is_plain(byte: u8) -> bool
-    ensures { result ≡ is_plain byte }
-{
-    byte.is_ascii_alphanumeric()
-        || byte == b'.'
-        || byte == b'/'
-        || byte == b'_'
-        || byte == b'-'
-        || byte == b'+'
-        || byte == b':'
-        || byte == b'@'
-        || byte == b'%'
-        || byte == b','
-        || byte == b'='
 }

@@ -34,5 +34,4 @@ mod row_objects;
 mod unified_text;
 mod written;
 
-pub use labels::is_plain_name;
 pub use written::{NamedSession, say_difference, write_difference};

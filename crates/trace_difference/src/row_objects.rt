@@ -9,7 +9,6 @@ use crate::written::NamedSession;
 use shown_rows::{count_of, is_change, left_in, right_in};
 use text_parts::{Either, Part, say};
 use trace_io::TextSink;
-use trace_text::values::say_text;
 use trace_text::{Number, Numbering, say_item_object};
 use uds_difference::Row;
 use uds_exchange::Meaning;
@@ -99,9 +98,9 @@ fn say_row<S: TextSink>(
 {
     say_row_front(change_number, left_before, right_before, row, out);
     say_left(left, left_before, row, rules, out);
-    say_text(out, ",\"right\":");
+    say(out, ",\"right\":");
     say_right(right, right_before, row, rules, out);
-    say_text(out, "}\n");
+    say(out, "}\n");
 }
 
 /// Says the object of a row, up to its items.
@@ -150,10 +149,10 @@ impl Part for ShownChange {
 
     fn say<S: TextSink>(self, out: &mut S) {
         match self.0 {
-            Row::Same => say_text(out, "same"),
-            Row::Changed => say_text(out, "changed"),
-            Row::OnlyLeft => say_text(out, "removed"),
-            Row::OnlyRight => say_text(out, "added"),
+            Row::Same => say(out, "same"),
+            Row::Changed => say(out, "changed"),
+            Row::OnlyLeft => say(out, "removed"),
+            Row::OnlyRight => say(out, "added"),
         }
     }
 }
@@ -164,7 +163,7 @@ fn say_left<S: TextSink>(items: &Meaning, place: usize, row: Row, rules: &Rules,
 {
     match row {
         Row::Same | Row::Changed | Row::OnlyLeft => say_listed(items, place, rules, out),
-        Row::OnlyRight => say_text(out, "null"),
+        Row::OnlyRight => say(out, "null"),
     }
 }
 
@@ -174,7 +173,7 @@ fn say_right<S: TextSink>(items: &Meaning, place: usize, row: Row, rules: &Rules
 {
     match row {
         Row::Same | Row::Changed | Row::OnlyRight => say_listed(items, place, rules, out),
-        Row::OnlyLeft => say_text(out, "null"),
+        Row::OnlyLeft => say(out, "null"),
     }
 }
 
@@ -184,7 +183,7 @@ fn say_listed<S: TextSink>(items: &Meaning, place: usize, rules: &Rules, out: &m
 {
     match items.item(place) {
         Some(item) => say_item_object(0, Numbering::Hidden, rules, item, out),
-        None => say_text(out, "null"),
+        None => say(out, "null"),
     }
 }
 

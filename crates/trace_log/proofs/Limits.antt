@@ -17,7 +17,15 @@ longest_message announced rx_dl bytes = (
 pub largest_limit : LargestLimit
 largest_limit settings max_bytes are = (
   λ with. (with.least, with.most),
-  λ both. record { tester = are.tester; unit = are.unit; apart = are.apart; least = both.0; most = both.1; rules = are.rules },
+  λ both. record {
+    tester = are.tester;
+    unit = are.unit;
+    apart = are.apart;
+    functional = are.functional;
+    least = both.0;
+    most = both.1;
+    rules = are.rules;
+  },
 )
 
 pub reads_by_pieces : ReadsByPieces

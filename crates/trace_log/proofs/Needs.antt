@@ -1,6 +1,5 @@
 -- The first lines of a log; and that a run which was refused memory has stopped at a frame that needed it.
 use Rattle.std.proofs.Common.{◌≡◌, ℕ, List, [], ◌∷◌, ◌++◌, Option, Some, append-nil, sym}
-use Rattle.direction.specs.declared.Dir.{Dir}
 use Rattle.can_log.specs.Log.{LogMeans, log_lines}
 use Rattle.can_log.specs.declared.frame.Stamped.{Stamped}
 use Rattle.isotp_receive.specs.Trace.{Entry}
@@ -8,11 +7,12 @@ use Rattle.trace_log.specs.ReadAs.{takes_all}
 use Rattle.trace_log.specs.Needing.{BeginsWithLines, HasFrame}
 use Rattle.trace_log.specs.Feeding.{StopsWithin}
 use Rattle.trace_log.specs.proving.Receiving.{entry_in}
-use Rattle.trace_log.specs.Settings.{Settings, direction_of}
+use Rattle.trace_log.specs.Settings.{Settings, channel_by}
 use Rattle.trace_log.specs.Trace.{trace}
 use Rattle.trace_log.proofs.ReadAs.{all_taken}
 use Rattle.trace_log.proofs.Receivings.{trace_next}
 use Rattle.trace_log.proofs.StoppedRuns.{have_come}
+use Rattle.isotp_receive.specs.declared.channel.Channel.{Channel}
 
 -- the first lines of a log are all
 pub all_begin : (log : List ℕ) (meanings : List (Option Stamped)) → LogMeans log meanings → BeginsWithLines log meanings
@@ -27,7 +27,7 @@ begins_with_lines settings log given meanings what place =
 
 -- the frame of that line is one of which this holds
 pub has_frame : (Holds : List Entry → Entry → Type 0) (settings : Settings) (log : List ℕ) (given : ℕ) (meanings : List (Option Stamped)) (what : Option Stamped)
-    (stamped : Stamped) (d : Dir) → StopsWithin settings.max_bytes log given meanings what → what ≡ Some stamped → Some d ≡ direction_of settings stamped.frame.id
+    (stamped : Stamped) (d : Channel) → StopsWithin settings.max_bytes log given meanings what → what ≡ Some stamped → Some d ≡ channel_by settings stamped.frame.id
     → Holds (trace settings meanings) (entry_in meanings stamped d) → HasFrame Holds settings log
 has_frame Holds settings log given meanings what stamped d place is direction holds = record {
   before = meanings;

@@ -1,6 +1,6 @@
 -- Lemmas for the proofs of the crates above: of the laws, of the lines of a log that were read, and of what is received of it.
 pub use Rattle.trace_log.proofs.Results.{four_ok, handed_on}
-pub use Rattle.trace_log.proofs.Directions.{foreign_direction}
+pub use Rattle.trace_log.proofs.Directions.{foreign_channel}
 pub use Rattle.trace_log.proofs.Traces.{trace_from-append}
 pub use Rattle.trace_log.proofs.OneMoreFrame.{messages_more, messages_under_more}
 pub use Rattle.trace_log.proofs.Announcements.{announces_kept, each_more, each_within, line_announces}

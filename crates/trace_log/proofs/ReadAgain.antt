@@ -43,9 +43,11 @@ use Rattle.trace_log.specs.Summing.{summary_of}
 use Rattle.trace_log.specs.Outcome.{Accepted, IsOutcome}
 use Rattle.trace_log.specs.Laws.{Records, Certifies, IsMessageLimit, IsCleanSummary, IsOwnCanonicalLog, IsCanonicalFor, NoRulesChangeNothing, CanonicalIsCanonical, SameMeaningSameText, RecordingHasCanonicalLog}
 use Rattle.trace_log.specs.Laws.{CanonicalLogLength, CanonicalLogLengthBySides, CleanSummaryIsCertificate, CleanLogIsRecording, SummaryCertifies, PendingAreTheRest}
-use Rattle.trace_log.proofs.Directions.{direction_of_id}
+use Rattle.trace_log.proofs.Directions.{channel_of_side}
 use Rattle.trace_log.proofs.LogLines.{lines_are_few}
 use Rattle.trace_log.proofs.Sendable.{IsCarried, IsSendable, messages_sendable, trace_of_bytes}
+use Rattle.isotp_receive.specs.Channels.{channel_of}
+use Rattle.isotp_receive.specs.Trace.{layout_in}
 
 -- ---- the lines of a canonical log
 
@@ -77,18 +79,18 @@ canonical_trace : (settings : Settings) (line n micros : ℕ) (frames : List (Di
 unfolding trace_from
 canonical_trace settings line n micros [] are time = refl
 canonical_trace settings line n micros (frame ∷ later) are time =
-    let direction = direction_of_id settings frame.0 are in
+    let direction = channel_of_side settings frame.0 are in
     let rest = canonical_trace settings (line + 1) (n + 1) (micros + 1000) later are (omega arith) in
     rw (direction, rest, time) refl
 
 -- and none announces too much
 canonical_within : (limit : ℕ) (settings : Settings) (line n micros : ℕ) (past : List Entry) (frames : List (Dir × List ℕ)) → AreSettings settings
     → EachClean limit past (timed (id_of settings) line micros frames) → EachWithin limit settings (stamped_from settings n frames)
-unfolding oversize
+unfolding oversize layout_in
 canonical_within limit settings line n micros past [] are clean = tt
 canonical_within limit settings line n micros past (frame ∷ later) are clean =
-    let entry : Entry = record { line = line; micros = micros; dir = frame.0; frame = (stamped_at settings n frame).frame } in
-    let direction = direction_of_id settings frame.0 are in (
+    let entry : Entry = record { line = line; micros = micros; channel = channel_of frame.0; frame = (stamped_at settings n frame).frame } in
+    let direction = channel_of_side settings frame.0 are in (
       rw direction (ap is_none (kept_is_within limit past entry clean.0.kept)),
       canonical_within limit settings (line + 1) (n + 1) (micros + 1000) (past ++ entry ∷ []) later are clean.1,
     )
@@ -290,6 +292,7 @@ still_settings settings are = record {
   tester = are.tester;
   unit = are.unit;
   apart = are.apart;
+  functional = are.functional;
   least = are.least;
   most = are.most;
   rules = record { most = omega arith; each = tt; apart = tt };

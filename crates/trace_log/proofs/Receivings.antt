@@ -7,19 +7,21 @@ use Rattle.direction.specs.declared.Dir.{Dir}
 use Rattle.can_log.specs.declared.frame.Stamped.{Stamped}
 use Rattle.isotp_receive.specs.declared.TheConstants.{MESSAGE_LIMIT}
 use Rattle.isotp_receive.specs.Capacities.{PairValue, CapacitiesGrow, KeepsWithin}
-use Rattle.isotp_pdu.specs.Reading.{layout_of}
 use Rattle.isotp_receive.specs.StandingReception.{receptions_after}
 use Rattle.isotp_receive.specs.Trace.{Entry, same_direction}
 use Rattle.isotp_receive.specs.Verdict.{VerdictValue, message, began, stored, flowed, dropped, EventValue, messages, told_message, verdict}
 use Rattle.isotp_receive.specs.Events.{events}
 use Rattle.isotp_receive.proofs.Promises.{one_more_keeps_within, messages_are_few, events_go_on, events_are_as_many}
 use Rattle.trace_log.specs.declared.summary.Summary.{Summary}
-use Rattle.trace_log.specs.Settings.{Settings, direction_of}
+use Rattle.trace_log.specs.Settings.{Settings, channel_by}
 use Rattle.trace_log.specs.Summing.{counted_in, counted_more, frames_of, is_message, more_if}
 use Rattle.trace_log.specs.Trace.{trace, trace_from, entry_of}
 use Rattle.trace_log.specs.proving.Receiving.{Receives, entry_in}
 use Rattle.trace_log.proofs.Traces.{trace_blank, trace_foreign, trace_directed}
 use Rattle.trace_log.proofs.OneMoreFrame.{messages_more}
+use Rattle.isotp_receive.specs.Channels.{dir_of}
+use Rattle.isotp_receive.specs.Trace.{layout_in}
+use Rattle.isotp_receive.specs.declared.channel.Channel.{Channel}
 
 -- ---- counts
 
@@ -54,23 +56,23 @@ module _ (limit : ℕ) (T : List Entry) (e : Entry) (few : length T < 2 ^ 62) wh
       ∙ ap (λ n. count_by passes (events limit T) + n) (one (passes (verdict limit T e)))
       ∙ sym (more_exactly (passes (verdict limit T e)) (count_by passes (events limit T)) (omega arith))
 
-  frames_more : (d : Dir) → frames_of d (T ++ e ∷ []) ≡ more_if (same_direction d e.dir) (frames_of d T)
+  frames_more : (d : Dir) → frames_of d (T ++ e ∷ []) ≡ more_if (same_direction d (dir_of e.channel)) (frames_of d T)
   frames_more d =
-      let at_most = count_by-le-length (λ (x : Entry). same_direction d x.dir) T in
-      sum_by-append (λ (x : Entry). cond (same_direction d x.dir) 1 0) T (e ∷ [])
-      ∙ ap (λ n. frames_of d T + n) (one (same_direction d e.dir))
-      ∙ sym (more_exactly (same_direction d e.dir) (frames_of d T) (omega arith))
+      let at_most = count_by-le-length (λ (x : Entry). same_direction d (dir_of x.channel)) T in
+      sum_by-append (λ (x : Entry). cond (same_direction d (dir_of x.channel)) 1 0) T (e ∷ [])
+      ∙ ap (λ n. frames_of d T + n) (one (same_direction d (dir_of e.channel)))
+      ∙ sym (more_exactly (same_direction d (dir_of e.channel)) (frames_of d T) (omega arith))
 
   delivered_more : length (messages limit (T ++ e ∷ [])) ≡ more_if (is_message (verdict limit T e).verdict) (length (messages limit T))
   delivered_more =
       let at_most = messages_are_few limit T in
       let told = (verdict limit T e).verdict in
-      ap length (messages_more limit T e) ∙ length-append (messages limit T) (told_message e.dir told)
-      ∙ ap (λ n. length (messages limit T) + n) (told_count e.dir told)
+      ap length (messages_more limit T e) ∙ length-append (messages limit T) (told_message (dir_of e.channel) told)
+      ∙ ap (λ n. length (messages limit T) + n) (told_count (dir_of e.channel) told)
       ∙ sym (more_exactly (is_message told) (length (messages limit T)) (omega arith))
 
   -- whatever is counted of it
-  pub counted_next : counted_in limit (T ++ e ∷ []) ≡ counted_more e.dir (verdict limit T e) (counted_in limit T)
+  pub counted_next : counted_in limit (T ++ e ∷ []) ≡ counted_more (dir_of e.channel) (verdict limit T e) (counted_in limit T)
   counted_next = simp (events_more, frames_more, delivered_more)
 
 -- ---- lines
@@ -98,11 +100,11 @@ pub trace_same_blank : (settings : Settings) (meanings : List (Option Stamped)) 
 trace_same_blank settings meanings what is = ap (λ w. trace settings (meanings ++ w ∷ [])) is ∙ trace_blank settings meanings
 
 pub trace_same_foreign : (settings : Settings) (meanings : List (Option Stamped)) (what : Option Stamped) (stamped : Stamped) → what ≡ Some stamped
-    → None ≡ direction_of settings stamped.frame.id → trace settings (meanings ++ what ∷ []) ≡ trace settings meanings
+    → None ≡ channel_by settings stamped.frame.id → trace settings (meanings ++ what ∷ []) ≡ trace settings meanings
 trace_same_foreign settings meanings what stamped is none = ap (λ w. trace settings (meanings ++ w ∷ [])) is ∙ trace_foreign settings meanings stamped none
 
-pub trace_next : (settings : Settings) (meanings : List (Option Stamped)) (what : Option Stamped) (stamped : Stamped) (d : Dir) → what ≡ Some stamped
-    → Some d ≡ direction_of settings stamped.frame.id → trace settings (meanings ++ what ∷ []) ≡ trace settings meanings ++ entry_in meanings stamped d ∷ []
+pub trace_next : (settings : Settings) (meanings : List (Option Stamped)) (what : Option Stamped) (stamped : Stamped) (d : Channel) → what ≡ Some stamped
+    → Some d ≡ channel_by settings stamped.frame.id → trace settings (meanings ++ what ∷ []) ≡ trace settings meanings ++ entry_in meanings stamped d ∷ []
 trace_next settings meanings what stamped d is direction = ap (λ w. trace settings (meanings ++ w ∷ [])) is ∙ trace_directed settings meanings stamped d direction
 
 -- what is received with it
@@ -118,7 +120,7 @@ receives_same settings meanings what pair lines line counts same number received
 
 pub receives_next : (settings : Settings) (meanings : List (Option Stamped)) (what : Option Stamped) (e : Entry) (old new : PairValue) (lines line : ℕ) (before after : Summary)
     → trace settings (meanings ++ what ∷ []) ≡ trace settings meanings ++ e ∷ [] → line ≡ length meanings + 1 → length meanings < 2 ^ 62
-    → new.receptions ≡ receptions_after MESSAGE_LIMIT (trace settings meanings ++ e ∷ []) → CapacitiesGrow MESSAGE_LIMIT e.dir (layout_of e.frame) old new → after ≡ counted_more e.dir (verdict MESSAGE_LIMIT (trace settings meanings) e) before
+    → new.receptions ≡ receptions_after MESSAGE_LIMIT (trace settings meanings ++ e ∷ []) → CapacitiesGrow MESSAGE_LIMIT (dir_of e.channel) (layout_in e) old new → after ≡ counted_more (dir_of e.channel) (verdict MESSAGE_LIMIT (trace settings meanings) e) before
     → Receives settings meanings old lines before → Receives settings (meanings ++ what ∷ []) new line after
 receives_next settings meanings what e old new lines line before after next number few pair grew counts received =
     let frames = few_frames settings meanings in
@@ -127,6 +129,6 @@ receives_next settings meanings what e old new lines line before after next numb
       keeps = subst (λ T. KeepsWithin MESSAGE_LIMIT T new) (sym next)
           (one_more_keeps_within MESSAGE_LIMIT (trace settings meanings) e old new received.pair_is received.keeps grew);
       lines_are = number ∙ sym (length-append meanings (what ∷ []));
-      counted = counts ∙ ap (counted_more e.dir (verdict MESSAGE_LIMIT (trace settings meanings) e)) received.counted
+      counted = counts ∙ ap (counted_more (dir_of e.channel) (verdict MESSAGE_LIMIT (trace settings meanings) e)) received.counted
           ∙ sym (counted_next MESSAGE_LIMIT (trace settings meanings) e (omega arith)) ∙ ap (counted_in MESSAGE_LIMIT) (sym next);
     }

@@ -6,7 +6,6 @@ use Rattle.std.specs.Option.{option_map}
 use Rattle.direction.specs.Dir.{Message}
 use Rattle.can_log.specs.Frame.{AreBytes}
 use Rattle.can_log.specs.Log.{LinesMean}
-use Rattle.direction.specs.declared.Dir.{Dir}
 use Rattle.can_log.specs.declared.frame.Stamped.{Stamped}
 use Rattle.can_log.proofs.Promises.{AllByRecursion-both, line_records_bytes}
 use Rattle.isotp_receive.specs.MessageLaws.{HoldBytes}
@@ -14,8 +13,9 @@ use Rattle.isotp_receive.specs.Trace.{Entry}
 use Rattle.isotp_receive.specs.Verdict.{messages}
 use Rattle.isotp_receive.proofs.Promises.{messages_fit, messages_hold_bytes}
 use Rattle.isotp_segment.specs.Timed.{HasFrames}
-use Rattle.trace_log.specs.Settings.{Settings, direction_of}
+use Rattle.trace_log.specs.Settings.{Settings, channel_by}
 use Rattle.trace_log.specs.Trace.{trace_from}
+use Rattle.isotp_receive.specs.declared.channel.Channel.{Channel}
 
 -- a message of bytes that has canonical frames
 pub record IsSendable (limit : ℕ) (one : Message) : Type 0 where
@@ -35,8 +35,8 @@ messages_sendable limit T least each =
 
 -- ---- the trace of a log
 
-one_entry : (n : ℕ) (stamped : Stamped) (rest : List Entry) → AreBytes stamped.frame.bytes → HoldBytes rest → (d : Option Dir)
-    → HoldBytes (option_to_list (option_map (λ dir. record { line = n; micros = stamped.micros; dir = dir; frame = stamped.frame }) d) ++ rest)
+one_entry : (n : ℕ) (stamped : Stamped) (rest : List Entry) → AreBytes stamped.frame.bytes → HoldBytes rest → (d : Option Channel)
+    → HoldBytes (option_to_list (option_map (λ channel. record { line = n; micros = stamped.micros; channel = channel; frame = stamped.frame }) d) ++ rest)
 one_entry n stamped rest small later None = later
 one_entry n stamped rest small later (Some d) = (small, later)
 
@@ -49,4 +49,4 @@ trace_of_bytes settings n (line ∷ lines) [] means = absurd means
 trace_of_bytes settings n (line ∷ lines) (None ∷ meanings) means = trace_of_bytes settings (n + 1) lines meanings means.1
 trace_of_bytes settings n (line ∷ lines) (Some stamped ∷ meanings) means =
     one_entry n stamped (trace_from settings (n + 1) meanings) (line_records_bytes line stamped means.0)
-    (trace_of_bytes settings (n + 1) lines meanings means.1) (direction_of settings stamped.frame.id)
+    (trace_of_bytes settings (n + 1) lines meanings means.1) (channel_by settings stamped.frame.id)

@@ -21,6 +21,7 @@ use Rattle.trace_log.specs.Summing.{ends_in_line_feed, frames_of, summary_of}
 use Rattle.trace_log.proofs.Receivings.{few_frames, one, one_if}
 use Rattle.trace_log.specs.proving.Receiving.{Receives}
 use Rattle.trace_log.specs.declared.summary.Summary.{Summary}
+use Rattle.isotp_receive.specs.Channels.{dir_of}
 
 -- a summary of these counts of frames
 abbrev summary_with : ℕ → ℕ → Summary → ℕ → ℕ → ℕ → Bool → Bool → Summary
@@ -34,9 +35,9 @@ summary_with lines frames counts unfinished pending ruled_out ended exchanged = 
   looks_exchanged = exchanged;
 }
 
-frames_before : (d : Dir) (e : Entry) (rest : List Entry) → frames_of d (e ∷ rest) ≡ one_if (same_direction d e.dir) + frames_of d rest
+frames_before : (d : Dir) (e : Entry) (rest : List Entry) → frames_of d (e ∷ rest) ≡ one_if (same_direction d (dir_of e.channel)) + frames_of d rest
 frames_before d e rest =
-    sum_by-append (λ (x : Entry). cond (same_direction d x.dir) 1 0) (e ∷ []) rest ∙ ap (λ n. n + frames_of d rest) (one (same_direction d e.dir))
+    sum_by-append (λ (x : Entry). cond (same_direction d (dir_of x.channel)) 1 0) (e ∷ []) rest ∙ ap (λ n. n + frames_of d rest) (one (same_direction d (dir_of e.channel)))
 
 one_side : (d : Dir) → one_if (same_direction dir.Tester d) + one_if (same_direction dir.Unit d) ≡ 1
 one_side dir.Tester = refl
@@ -49,7 +50,7 @@ two_sides (e ∷ rest) =
     let later = two_sides rest in
     let of_tester = frames_before dir.Tester e rest in
     let of_unit = frames_before dir.Unit e rest in
-    let one_of_two = one_side e.dir in
+    let one_of_two = one_side (dir_of e.channel) in
     omega arith
 
 -- the counts of a log that was received to its end are its summary

@@ -5,7 +5,7 @@ use Rattle.can_log.specs.Canonical.{canonical_length}
 use Rattle.direction.specs.Dir.{Message}
 use Rattle.can_log.specs.Log.{LogMeans, ended_lines}
 use Rattle.can_log.specs.Refused.{NoLineFeed}
-use Rattle.direction.specs.declared.Dir.{Dir}
+use Rattle.isotp_receive.specs.declared.channel.Channel.{Channel}
 use Rattle.can_log.specs.declared.frame.Id.{Id}
 use Rattle.can_log.specs.declared.frame.Stamped.{Stamped}
 use Rattle.isotp_pdu.specs.Layout as layout
@@ -22,7 +22,7 @@ use Rattle.uds_rules.specs.Under.{under}
 use Rattle.trace_log.specs.declared.fault.Fault.{Fault}
 use Rattle.trace_log.specs.declared.fault.Fault.TheVariants.{Read}
 use Rattle.trace_log.specs.declared.summary.Summary.{Summary}
-use Rattle.trace_log.specs.Settings.{Settings, AreSettings, without_rules, id_of, direction_of}
+use Rattle.trace_log.specs.Settings.{Settings, AreSettings, without_rules, id_of, id_on, channel_by}
 use Rattle.trace_log.specs.MaskedItems.{only_mask, item_under}
 use Rattle.trace_log.specs.Trace.{trace}
 use Rattle.trace_log.specs.Messages.{messages_of_lines, meaning_of_lines, HasMeaning}
@@ -33,11 +33,12 @@ use Rattle.trace_log.specs.LinesRead.{AreLinesRead, AreReadBefore}
 use Rattle.trace_log.specs.Outcome.{Accepted, IsOutcome}
 use Rattle.trace_log.specs.ReadAs.{Unreadable, IsReadAs}
 use Rattle.trace_log.specs.Answers.{ReadsWhile, WritesFront, WritesEagerly, Answers}
+use Rattle.direction.specs.declared.Dir.{Dir}
 
--- a frame has a direction exactly where its identifier is that of the direction
-abbrev pub DirectionIsById : Type 0
-DirectionIsById = (settings : Settings) → AreSettings settings → (id : Id) (dir : Dir)
-    → (direction_of settings id ≡ Some dir) ↔ (id ≡ id_of settings dir)
+-- a frame has a channel exactly where its identifier is that of the channel
+abbrev pub ChannelIsById : Type 0
+ChannelIsById = (settings : Settings) → AreSettings settings → (id : Id) (channel : Channel)
+    → (channel_by settings id ≡ Some channel) ↔ (id_on settings channel ≡ Some id)
 
 -- a limit of messages that no single frame passes and that a first frame can announce
 pub record IsMessageLimit (limit : ℕ) : Type 0 where

@@ -2,13 +2,13 @@
 use Rattle.std.specs.Prelude.{◌≡◌, ℕ, ◌<◌, ◌⊎◌, true, List, [], ◌∷◌, ◌++◌, length, Option}
 use Rattle.can_log.specs.Log.{log_lines, LinesMean}
 use Rattle.can_log.specs.declared.frame.Stamped.{Stamped}
-use Rattle.isotp_pdu.specs.Reading.{layout_of}
 use Rattle.isotp_receive.specs.Growth.{MayBeRefused}
 use Rattle.isotp_receive.specs.Trace.{Entry}
 use Rattle.isotp_receive.specs.Verdict.{message, verdict}
 use Rattle.uds_rules.specs.Rule.{RuleValue, is_masked}
 use Rattle.trace_log.specs.Settings.{Settings}
 use Rattle.trace_log.specs.Trace.{trace}
+use Rattle.isotp_receive.specs.Trace.{layout_in}
 
 -- The first lines of the log mean this, one after another.
 pub record BeginsWithLines (log : List ℕ) (meanings : List (Option Stamped)) : Type 0 where
@@ -35,7 +35,7 @@ pub record HasFrame (Holds : List Entry → Entry → Type 0) (settings : Settin
 -- The bytes of the frame are kept for a message of several frames: it is a first frame that begins a reception, or a
 -- consecutive frame that is stored or completes a message.
 abbrev pub IsKeptForMessage : ℕ → List Entry → Entry → Type 0
-IsKeptForMessage limit T e = MayBeRefused (layout_of e.frame) (verdict limit T e).verdict
+IsKeptForMessage limit T e = MayBeRefused (layout_in e) (verdict limit T e).verdict
 
 -- The frame completes a message of which rules mask a copy.
 abbrev pub CompletesMasked : ℕ → List RuleValue → List Entry → Entry → Type 0

@@ -5,11 +5,12 @@ use Rattle.std.specs.List.{AllByRecursion}
 use Rattle.can_log.specs.Frame.{FrameValue}
 use Rattle.can_log.specs.Line.{LineMeans}
 use Rattle.can_log.specs.Log.{log_lines, LinesMean, ended_lines, IsRefusedIn}
-use Rattle.direction.specs.declared.Dir.{Dir}
 use Rattle.can_log.specs.declared.frame.Stamped.{Stamped}
 use Rattle.isotp_pdu.specs.Reading.{layout_of}
 use Rattle.isotp_receive.specs.Events.{oversize_in}
-use Rattle.trace_log.specs.Settings.{Settings, direction_of}
+use Rattle.trace_log.specs.Settings.{Settings, channel_by}
+use Rattle.isotp_receive.specs.Channels.{layout_on}
+use Rattle.isotp_receive.specs.declared.channel.Channel.{Channel}
 
 -- Why a log is refused.
 pub data Refusal : Type 0 where
@@ -24,14 +25,14 @@ pub data Refusal : Type 0 where
 
 -- the length above the limit that a frame announces, where it is one of the two directions; a foreign frame announces
 -- nothing
-abbrev pub oversize_by : ℕ → Option Dir → FrameValue → Option ℕ
+abbrev pub oversize_by : ℕ → Option Channel → FrameValue → Option ℕ
 oversize_by limit None frame = None
-oversize_by limit (Some dir) frame = oversize_in limit (layout_of frame)
+oversize_by limit (Some channel) frame = oversize_in limit (layout_on channel (layout_of frame))
 
 -- the length above the limit that a line with this meaning announces
 unfoldable pub oversize : ℕ → Settings → Option Stamped → Option ℕ
 oversize limit settings None = None
-oversize limit settings (Some stamped) = oversize_by limit (direction_of settings stamped.frame.id) stamped.frame
+oversize limit settings (Some stamped) = oversize_by limit (channel_by settings stamped.frame.id) stamped.frame
 
 -- it announces none
 abbrev pub announces_within : ℕ → Settings → Option Stamped → Bool

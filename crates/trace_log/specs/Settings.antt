@@ -1,28 +1,38 @@
 -- What a contract sees of a `Config`, and which settings there are.
-use Rattle.std.specs.Prelude.{◌≡◌, ◌≢◌, ℕ, ◌^◌, ◌<◌, ◌≤◌, ◌==◌, ◌⊎◌, Bool, false, List, [], Option, Some, None, Result, Ok, Err, if◌then◌else◌}
+use Rattle.std.specs.Prelude.{◌≡◌, ◌≢◌, ℕ, ◌^◌, ◌<◌, ◌≤◌, ◌==◌, ◌⊎◌, ⊤, Bool, false, List, [], Option, Some, None, Result, Ok, Err, if◌then◌else◌}
 use Rattle.can_log.specs.Frame.{IsCanIdentifier}
+use Rattle.can_log.specs.Wanted.{WantedValue}
 use Rattle.direction.specs.declared.Dir.{Dir}
 use Rattle.direction.specs.declared.Dir.TheVariants as dir
+use Rattle.isotp_receive.specs.declared.channel.Channel.{Channel}
+use Rattle.isotp_receive.specs.declared.channel.Channel.TheVariants as channel
 use Rattle.can_log.specs.declared.frame.Id.{Id}
 use Rattle.can_log.specs.declared.frame.Id.TheVariants as id
 use Rattle.uds_rules.specs.Legal.{AreRules}
 use Rattle.uds_rules.specs.Rule.{RuleValue}
 use Rattle.trace_log.specs.declared.fault.ConfigFault.{ConfigFault}
-use Rattle.trace_log.specs.declared.fault.ConfigFault.TheVariants.{IdRange, SameId, LimitRange}
+use Rattle.trace_log.specs.declared.fault.ConfigFault.TheVariants.{IdRange, SameId, SameFunctional, LimitRange}
 
--- the identifiers of the two sides, the most bytes of a log and of its canonical log, and the rules that its messages
--- are under
+-- the identifiers of the two sides, that on which the tester asks all units where there is one, the most bytes of a log
+-- and of its canonical log, and the rules that its messages are under
 pub record Settings : Type 0 where
   pub tester : Id
   pub unit : Id
+  pub functional : Option Id
   pub max_bytes : ℕ
   pub rules : List RuleValue
+
+-- where there is one: a bus carries it, and it is neither of the two
+abbrev pub IsFunctionalOf : Id → Id → Option Id → Type 0
+IsFunctionalOf tester unit None = ⊤
+IsFunctionalOf tester unit (Some functional) = IsCanIdentifier functional × (functional ≢ tester) × (functional ≢ unit)
 
 -- a bus carries both, and they aren't the same one; the limit is 1 to 2^40 bytes; the rules are those of a profile
 pub record AreSettings (settings : Settings) : Type 0 where
   pub tester : IsCanIdentifier settings.tester
   pub unit : IsCanIdentifier settings.unit
   pub apart : settings.tester ≢ settings.unit
+  pub functional : IsFunctionalOf settings.tester settings.unit settings.functional
   pub least : 1 ≤ settings.max_bytes
   pub most : settings.max_bytes ≤ 2 ^ 40
   pub rules : AreRules settings.rules
@@ -34,11 +44,35 @@ without_rules settings = record settings { rules = [] }
 -- The settings with these parts and no rules, or why there are none: of the reasons that apply, the first of these.
 abbrev pub Configures : Id → Id → ℕ → Result Settings ConfigFault → Type 0
 Configures tester unit max_bytes (Ok settings) =
-    (settings ≡ record { tester = tester; unit = unit; max_bytes = max_bytes; rules = [] }) × AreSettings settings
+    (settings ≡ record { tester = tester; unit = unit; functional = None; max_bytes = max_bytes; rules = [] }) × AreSettings settings
 Configures tester unit max_bytes (Err IdRange) = (¬ IsCanIdentifier tester) ⊎ (¬ IsCanIdentifier unit)
 Configures tester unit max_bytes (Err SameId) = IsCanIdentifier tester × IsCanIdentifier unit × (tester ≡ unit)
+Configures tester unit max_bytes (Err SameFunctional) = ⊥
 Configures tester unit max_bytes (Err LimitRange) =
     IsCanIdentifier tester × IsCanIdentifier unit × (tester ≢ unit) × ((max_bytes ≡ 0) ⊎ (2 ^ 40 < max_bytes))
+
+-- The settings with this identifier of functional requests, or why there are none: of the reasons that apply, the first of these.
+abbrev pub Adds : Settings → Id → Result Settings ConfigFault → Type 0
+Adds settings functional (Ok more) = (more ≡ record settings { functional = Some functional }) × AreSettings more
+Adds settings functional (Err IdRange) = ¬ IsCanIdentifier functional
+Adds settings functional (Err SameId) = ⊥
+Adds settings functional (Err SameFunctional) = IsCanIdentifier functional × ((functional ≡ settings.tester) ⊎ (functional ≡ settings.unit))
+Adds settings functional (Err LimitRange) = ⊥
+
+-- the same where there is such an identifier, of what was configured without it
+abbrev pub AddsIf : Option Id → Result Settings ConfigFault → Result Settings ConfigFault → Type 0
+AddsIf functional (Err fault) result = result ≡ Err fault
+AddsIf None (Ok settings) result = result ≡ Ok settings
+AddsIf (Some functional) (Ok settings) result = Adds settings functional result
+
+-- The settings of a session with these identifiers and no rules, or why there are none.
+abbrev pub ConfiguresSession : Id → Id → Option Id → ℕ → Result Settings ConfigFault → Type 0
+ConfiguresSession tester unit functional max_bytes result =
+    (plain : Result Settings ConfigFault) × Configures tester unit max_bytes plain × AddsIf functional plain result
+
+-- the identifiers of the frames that are read
+abbrev pub wanted_of : Settings → WantedValue
+wanted_of settings = record { first = settings.tester; second = settings.unit; third = settings.functional }
 
 -- the identifier of the frames of a direction
 abbrev pub id_of : Settings → Dir → Id
@@ -52,9 +86,21 @@ is_same_id (id.Std a) (id.Ext b) = false
 is_same_id (id.Ext a) (id.Std b) = false
 is_same_id (id.Ext a) (id.Ext b) = a == b
 
--- The direction of the frames with this identifier. All other frames are foreign, and have none.
-unfoldable pub direction_of : Settings → Id → Option Dir
-direction_of settings id =
-    if is_same_id id settings.tester then Some dir.Tester
-    else if is_same_id id settings.unit then Some dir.Unit
+-- there is one, and it is this
+abbrev pub has_id : Option Id → Id → Bool
+has_id None id = false
+has_id (Some functional) id = is_same_id id functional
+
+-- The channel of the frames with this identifier. All other frames are foreign, and have none.
+unfoldable pub channel_by : Settings → Id → Option Channel
+channel_by settings id =
+    if is_same_id id settings.tester then Some channel.Tester
+    else if is_same_id id settings.unit then Some channel.Unit
+    else if has_id settings.functional id then Some channel.Functional
     else None
+
+-- the identifier of the frames of a channel, where it has one
+abbrev pub id_on : Settings → Channel → Option Id
+id_on settings channel.Tester = Some settings.tester
+id_on settings channel.Unit = Some settings.unit
+id_on settings channel.Functional = settings.functional

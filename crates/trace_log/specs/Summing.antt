@@ -16,10 +16,11 @@ use Rattle.trace_log.specs.declared.summary.Summary.{Summary}
 use Rattle.trace_log.specs.Settings.{Settings}
 use Rattle.trace_log.specs.Trace.{trace}
 use Rattle.trace_log.specs.Messages.{messages_of_lines}
+use Rattle.isotp_receive.specs.Channels.{dir_of}
 
 -- how many frames of the trace this side sent
 abbrev pub frames_of : Dir → List Entry → ℕ
-frames_of d T = count_by (λ (e : Entry). same_direction d e.dir) T
+frames_of d T = count_by (λ (e : Entry). same_direction d (dir_of e.channel)) T
 
 -- the byte is a line feed, where there is one
 abbrev pub is_line_feed : Option ℕ → Bool

@@ -5,6 +5,7 @@ ghost use Rattle.can_log.specs.Frame.{IsCanIdentifier};
 use crate::fault::ConfigFault;
 use can_log::{Id, Wanted};
 use direction::Dir;
+use isotp_receive::Channel;
 use std::marker::Model;
 use uds_rules::Rules;
 
@@ -17,11 +18,11 @@ const LARGEST_BASE_ID: u16 = 0x7FF;
 /// The largest extended identifier, of 29 bits.
 const LARGEST_EXTENDED_ID: u32 = 0x1FFF_FFFF;
 
-/// The identifiers of the tester and the unit, the most bytes of a log and of its canonical log, and the rules that
-/// messages are under.
+/// The identifiers of the tester and the unit, that on which the tester asks all units if there is one, the most bytes of
+/// a log and of its canonical log, and the rules that messages are under.
 #[derive(Debug, Drop)]
 pub struct Config {
-    /// The tester's identifier, and then the unit's.
+    /// The tester's identifier, then the unit's, and as the third that of functional requests, if there is one.
     wanted: Wanted,
     max_bytes: u64,
     rules: Rules,
@@ -32,14 +33,14 @@ impl Model for Config {
 
     ghost Value = { Settings };
 
-    ghost view = { λ c. record { tester = c.wanted.first; unit = c.wanted.second; max_bytes = c.max_bytes; rules = c.rules } };
+    ghost view = { λ c. record { tester = c.wanted.first; unit = c.wanted.second; functional = c.wanted.third; max_bytes = c.max_bytes; rules = c.rules } };
 
-    ghost invariant = { λ c. AreSettings (record { tester = c.wanted.first; unit = c.wanted.second; max_bytes = c.max_bytes; rules = c.rules }) };
+    ghost invariant = { λ c. AreSettings (record { tester = c.wanted.first; unit = c.wanted.second; functional = c.wanted.third; max_bytes = c.max_bytes; rules = c.rules }) };
 }
 
 impl Config {
     ghost use Rattle.std.specs.Prelude.{◌≡◌};
-    ghost use Rattle.trace_log.specs.Settings.{AreSettings, Configures, without_rules, id_of, direction_of};
+    ghost use Rattle.trace_log.specs.Settings.{AreSettings, Configures, ConfiguresSession, Adds, without_rules, wanted_of, id_of, channel_by};
 
     /// The configuration with these parts, and no rules. A base identifier is at most 7FF, an extended one at most
     /// 1FFFFFFF, and the two sides don't have the same one: equal numbers of different formats are different
@@ -61,6 +62,25 @@ impl Config {
             max_bytes,
             rules: Rules::none(),
         })
+    }
+
+    /// The configuration of a session: of both sides, and of the identifier on which the tester asks all units, if it
+    /// does. Of several faults the first of [`Config::new`] is answered, and then that of [`Config::with_functional`].
+    pub fn of_session(
+        tester: Id,
+        unit: Id,
+        functional: Option<Id>,
+        max_bytes: u64,
+    ) -> Result<Config, ConfigFault>
+        ensures { ConfiguresSession tester unit functional max_bytes result }
+    {
+        match Config::new(tester, unit, max_bytes) {
+            Ok(config) => match functional {
+                Some(functional) => config.with_functional(functional),
+                None => Ok(config),
+            },
+            Err(fault) => Err(fault),
+        }
     }
 
     /// This configuration with these rules in place of its own.
@@ -96,10 +116,35 @@ impl Config {
         self.wanted.second()
     }
 
-    /// The identifiers of the tester and the unit: frames of others are foreign.
+    /// This configuration with an identifier on which the tester asks all units. A bus carries it, and it is neither of
+    /// the two sides'.
+    pub fn with_functional(self, functional: Id) -> Result<Config, ConfigFault>
+        ensures { Adds self functional result }
+    {
+        if !is_configurable(functional) {
+            return Err(ConfigFault::IdRange);
+        }
+        if self.wanted.is_first(functional) || self.wanted.is_second(functional) {
+            return Err(ConfigFault::SameFunctional);
+        }
+        Ok(Config {
+            wanted: self.wanted.with_third(functional),
+            max_bytes: self.max_bytes,
+            rules: self.rules,
+        })
+    }
+
+    /// The identifier on which the tester asks all units, if there is one.
+    pub fn functional(&self) -> Option<Id>
+        ensures { result ≡ self.now.functional }
+    {
+        self.wanted.third()
+    }
+
+    /// The identifiers of the frames that are read: frames of others are foreign.
     #[inline(always)]
     pub fn wanted(&self) -> &Wanted
-        ensures { result.now ≡ record { first = self.now.tester; second = self.now.unit } }
+        ensures { result.now ≡ wanted_of self.now }
     {
         &self.wanted
     }
@@ -131,15 +176,17 @@ impl Config {
         }
     }
 
-    /// The direction of the frames with this identifier; none where they are foreign.
-    #[tactic(auto, unfolding(crate::specs::Settings::direction_of))]
-    pub fn direction_of(&self, id: Id) -> Option<Dir>
-        ensures { result ≡ direction_of self.now id }
+    /// The channel of the frames with this identifier; none where they are foreign.
+    #[tactic(auto, unfolding(crate::specs::Settings::channel_by))]
+    pub fn channel_by(&self, id: Id) -> Option<Channel>
+        ensures { result ≡ channel_by self.now id }
     {
         if self.wanted.is_first(id) {
-            Some(Dir::Tester)
+            Some(Channel::Tester)
         } else if self.wanted.is_second(id) {
-            Some(Dir::Unit)
+            Some(Channel::Unit)
+        } else if self.wanted.is_third(id) {
+            Some(Channel::Functional)
         } else {
             None
         }

@@ -61,6 +61,9 @@ pub enum ConfigFault {
     /// The tester and the unit have one identifier.
     #[error("tester and unit have the same identifier")]
     SameId,
+    /// The identifier of functional requests is that of the tester or the unit.
+    #[error("functional identifier is that of tester or unit")]
+    SameFunctional,
     /// The limit is 0, or above [`LARGEST_LIMIT`](crate::LARGEST_LIMIT).
     #[error("limit out of range")]
     LimitRange,

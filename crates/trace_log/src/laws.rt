@@ -1,9 +1,9 @@
 //! What holds of what logs mean, of why they are refused, and of canonical logs.
-ghost use Rattle.trace_log.specs.Laws.{DirectionIsById, OutcomeIsThere, OutcomeIsOne, NoRulesChangeNothing, CountsKnowNoRules, CleanKnowsNoRules, MasksKeepItems, CanonicalIsCanonical, SameMeaningSameText, RecordingHasCanonicalLog, CleanSummaryIsCertificate, CleanLogIsRecording, CleanLogHasBothSides, FramesAreOfTwoSides, PendingAreTheRest, EarlyTextStays, EarlyTextGrows, LinesReadAreThere, LinesReadAreOne, ReadingIsThere, ReadingIsOne, FittingIsLongest, FaultLeavesFront, LongestMessage, LargestLimit, ReadsByPieces, WritesByPieces, CanonicalLogLength, CanonicalLogLengthBySides, BadLineIsLowest, OversizeIsLowest, LargerLimitKeeps, SummaryCertifies, CertificateKnowsNoRules};
+ghost use Rattle.trace_log.specs.Laws.{ChannelIsById, OutcomeIsThere, OutcomeIsOne, NoRulesChangeNothing, CountsKnowNoRules, CleanKnowsNoRules, MasksKeepItems, CanonicalIsCanonical, SameMeaningSameText, RecordingHasCanonicalLog, CleanSummaryIsCertificate, CleanLogIsRecording, CleanLogHasBothSides, FramesAreOfTwoSides, PendingAreTheRest, EarlyTextStays, EarlyTextGrows, LinesReadAreThere, LinesReadAreOne, ReadingIsThere, ReadingIsOne, FittingIsLongest, FaultLeavesFront, LongestMessage, LargestLimit, ReadsByPieces, WritesByPieces, CanonicalLogLength, CanonicalLogLengthBySides, BadLineIsLowest, OversizeIsLowest, LargerLimitKeeps, SummaryCertifies, CertificateKnowsNoRules};
 
-/// A frame has a direction exactly where its identifier is that of the direction.
-pub fn direction_is_by_id()
-    ensures { DirectionIsById }
+/// A frame has a channel exactly where its identifier is that of the channel.
+pub fn channel_is_by_id()
+    ensures { ChannelIsById }
 {}
 
 /// Each log has an outcome.

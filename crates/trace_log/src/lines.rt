@@ -1,6 +1,6 @@
 //! The lines of a piece of a log, handed on one by one.
-ghost use Rattle.std.specs.Prelude.{◌≡◌, ◌≢◌, ℕ, ◌+◌, ◌-◌, ◌^◌, ◌<◌, ◌≤◌, List, [], ◌∷◌, ◌++◌, length, OnOk, IfErr, IfNone, IfSome, IsSomeAnd, Option, Some, true, false};
-ghost use Rattle.can_log.specs.declared.frame.Id.{Id as IdValue};
+ghost use Rattle.std.specs.Prelude.{◌≡◌, ℕ, ◌+◌, ◌-◌, ◌^◌, ◌<◌, ◌≤◌, List, [], ◌∷◌, ◌++◌, length, OnOk, IfErr, IfNone, IfSome, IsSomeAnd, Option, Some, true, false};
+ghost use Rattle.can_log.specs.Wanted.{WantedValue, IsForeign};
 ghost use Rattle.can_log.specs.declared.frame.Stamped.{Stamped as StampedValue};
 ghost use Rattle.can_log.specs.Scanning.{Scans, ScansForeign};
 ghost use Rattle.can_log.specs.WholeLog.{StandsAfter};
@@ -29,16 +29,16 @@ pub trait LineTaker {
     ghost sure: { Self × Self.Device → List (Option StampedValue) → Self × Self.Device → Type 0 };
 
     /// Which identifiers it looks at the frames of, where it does not look at all.
-    ghost wants: { Self → IdValue → IdValue → Type 0 };
+    ghost wants: { Self → WantedValue → Type 0 };
 
-    /// The two identifiers: a frame of another one is foreign to it. Where there are none, no frame is.
+    /// The identifiers: a frame of another one is foreign to it. Where there are none, no frame is.
     fn wanted(&self) -> Option<&Wanted>
-        ensures { IfSome result (λ wanted. wants self.now wanted.now.first wanted.now.second) };
+        ensures { IfSome result (λ wanted. wants self.now wanted.now) };
 
     /// Passes the next line, by its number, which records a foreign frame.
     fn pass(&mut self, line: u64)
-        ensures takes { (device : Self.Device) (first second : IdValue) (stamped : StampedValue) → wants self.old first second
-            → stamped.frame.id ≢ first → stamped.frame.id ≢ second
+        ensures takes { (device : Self.Device) (wanted : WantedValue) (stamped : StampedValue) → wants self.old wanted
+            → IsForeign wanted stamped.frame.id
             → (start : Self × Self.Device) (meanings : List (Option StampedValue)) → line ≡ length meanings + 1
             → took start meanings (self.old, device) → took start (meanings ++ Some stamped ∷ []) (self.new, device) }
         ensures kept { (device : Self.Device) (start : Self × Self.Device) (first : List (Option StampedValue))
@@ -131,7 +131,7 @@ fn scan_next(
     answer: &mut Scan,
 ) -> Option<usize>
     requires { scanner.old.taken + length piece.now ≤ 2 ^ 62 }
-    ensures foreign { IfSome result (λ used. IsSomeAnd wanted.entry (λ w. ScansForeign w.now.first w.now.second scanner.old piece.now used scanner.new)) }
+    ensures foreign { IfSome result (λ used. IsSomeAnd wanted.entry (λ w. ScansForeign w.now scanner.old piece.now used scanner.new)) }
     ensures answer { IfNone result (Scans scanner.old piece.now answer.new scanner.new) }
 {
     match wanted {

@@ -1,5 +1,6 @@
 -- The changes of rows, one row after another.
-use Rattle.std.proofs.Common.{◌≡◌, ℕ, zero, suc, ◌+◌, ◌≤◌, ◌<◌, ◌^◌, Bool, true, false, List, [], ◌∷◌, length, drop, get_or, Option, Some, None, IfSome, ap, sym, ◌∙◌, arith, refl}
+use Rattle.std.proofs.Common.{◌≡◌, ℕ, zero, suc, ◌+◌, ◌≤◌, ◌<◌, ◌^◌, Bool, true, false, List, [], ◌∷◌, length}
+use Rattle.std.proofs.Common.{drop, get_or, Option, Some, None, IfSome, ap, sym, ◌∙◌, arith, refl}
 use Rattle.std.specs.Prelude.{slice_get, if◌then◌else◌}
 use Rattle.std.proofs.lemmas.List.{drop_more}
 use Rattle.std.proofs.lemmas.Option.{none-some, same_Some}
@@ -28,8 +29,8 @@ never-begun : (begins : Bool) (it : Change) → ◌≡◌ {A = Option Change} (i
 never-begun true it is = absurd (none-some it (sym is))
 never-begun false it is = refl
 
--- What begins with the first row of some, by the row in front of them: the changes of the rows behind it are those behind one
--- change, or all.
+-- What begins with the first row of some, by the row in front of them: the changes of the rows behind it are those
+-- behind one change, or all.
 module _ (front : Row) (i j a b : ℕ) (rows later : List Row) (row : Row) (first : rows ≡ row ∷ later) (found : Option Change)
     (is : found ≡ found_at front i j row later) (left_is : a ≡ left_in row) (right_is : b ≡ right_in row) where
   behind : changes_from row (i + left_in row) (j + right_in row) later ≡ changes_from row (i + a) (j + b) later

@@ -1,110 +1,21 @@
 -- The rows of a chart are a piece of the log's, and have the row with which the item begins and its answer.
-use Rattle.std.proofs.Common.{◌≡◌, ℕ, zero, suc, ◌+◌, ◌-◌, ◌≤◌, ◌<◌, ◌⊎◌, Bool, true, false, List, [], ◌∷◌, ◌++◌, length, take, drop, Option, Some, None, ap, sym, ◌∙◌, refl, arith, inl, inr}
-use Rattle.std.specs.Prelude.{◌||◌, min, slice_get, if◌then◌else◌}
+use Rattle.std.proofs.Common.{◌≡◌, ℕ, suc, ◌+◌, ◌-◌, ◌≤◌, ◌<◌, ◌⊎◌, true, false, List, [], ◌++◌}
+use Rattle.std.proofs.Common.{length, take, drop, None, ap, sym, ◌∙◌, refl, arith, inl, inr}
+use Rattle.std.specs.Prelude.{min, slice_get}
 use Rattle.std.specs.List.{list_any}
 use Rattle.std.proofs.lemmas.Bool.{cases_Bool, cases_lt}
 use Rattle.std.proofs.lemmas.List.{drop-append-le, drop-drop, drop_all, length-drop, length-take, take-append-drop}
 use Rattle.std.proofs.Math.Seq.{take-add}
 use Rattle.isotp_receive.proofs.Promises.{get-drop}
 use Rattle.trace_report.specs.Blocks.{begins_exchange}
-use Rattle.trace_report.specs.Items.{RowMessageValue, answer_by, answer_in, begins, message_in, rows_before}
-use Rattle.trace_report.specs.Roles.{is_answer_role, is_request_role}
-use Rattle.trace_report.specs.Rows.{RowValue, message, no_answer, dropped, ended, unfinished}
+use Rattle.trace_report.specs.Items.{answer_in, begins, rows_before}
+use Rattle.trace_report.specs.Rows.{RowValue, ended}
 use Rattle.trace_pair.specs.FirstDifference.{asks, before_request, chart_from, chart_to, last_request, most_before, rows_more}
 use Rattle.trace_pair.specs.ChartLaws.{ChartHasTheItem}
 use Rattle.trace_pair.specs.Losses.{first_row}
-use Rattle.trace_pair.proofs.ChartPlaces.{first-asks, first-later, first-to, from-first, get-past, last-below, last-earlier, last-there, to-within, up-by}
-use Rattle.trace_pair.proofs.LossPlaces.{begins-first, begins-next, begins-none}
-
--- the row with which an item begins stands before that of the next one
-before-next : (item : ℕ) (rows : List RowValue) → rows_before item rows < length rows → rows_before item rows < rows_before (item + 1) rows
-before-next item [] there = absurd (omega (arith, there))
-before-next item (row ∷ rows) there = elim (cases_Bool (begins row)) [
-  | inl begun ↦ of-begun item (λ n. before-next n rows) there begun
-  | inr none ↦
-      let here = begins-none row rows item none in
-      omega (arith, here, begins-none row rows (item + 1) none, before-next item rows (omega (arith, here, there)))
-]
-  where
-    of-begun : (item : ℕ) → ((n : ℕ) → rows_before n rows < length rows → rows_before n rows < rows_before (n + 1) rows)
-        → rows_before item (row ∷ rows) < suc (length rows) → begins row ≡ true → rows_before item (row ∷ rows) < rows_before (item + 1) (row ∷ rows)
-    of-begun zero rest there begun =
-        omega (arith, begins-first row rows begun, begins-next row rows 0 begun)
-    of-begun (suc n) rest there begun =
-        let next : suc n ≡ n + 1 = omega arith in
-        let is = ap (λ (m : ℕ). rows_before m (row ∷ rows)) next ∙ begins-next row rows n begun in
-        let later = begins-next row rows (suc n) begun in
-        let again = ap (λ (m : ℕ). rows_before m rows) next in
-        omega (arith, is, later, again, rest n (omega (arith, is, there)))
-
--- what stands there among the first ones
-get-taken : {X : Type 0} (count : ℕ) (xs : List X) (at : ℕ) → at < count → slice_get (take count xs) at ≡ slice_get xs at
-get-taken zero xs at low = absurd (omega (arith, low))
-get-taken (suc count) [] at low = refl
-get-taken (suc count) (x ∷ xs) zero low = refl
-get-taken (suc count) (x ∷ xs) (suc at) low = get-taken count xs at (omega (arith, low))
-
--- Answers before the next request.
-
--- behind a request no answer to one before it is looked for
-asked-none : (sent : RowMessageValue) (later : Option RowMessageValue) → is_request_role sent.role ≡ true → answer_by (Some sent) later ≡ None
-asked-none sent later there = ap (λ (b : Bool). if b then None else if is_answer_role sent.role then Some sent else later) there
-
-asks-none : (row : RowValue) (later : Option RowMessageValue) → begins_exchange row ≡ true → answer_by (message_in row) later ≡ None
-asks-none (message is d place bytes) later there = asked-none (record { role = is; dir = d; place = place; bytes = bytes }) later there
-asks-none (no_answer number silent) later there = absurd (cc there)
-asks-none (dropped place d linked why) later there = absurd (cc there)
-asks-none (ended place end) later there = absurd (cc there)
-asks-none (unfinished d line len) later there = absurd (cc there)
-
-none-answered : (rows : List RowValue) → answer_in (drop (before_request rows) rows) ≡ None
-none-answered [] = refl
-none-answered (row ∷ rows) = elim (cases_Bool (begins_exchange row)) [
-  | inl there ↦ ap (λ (n : ℕ). answer_in (drop n (row ∷ rows))) (first-asks row rows there) ∙ asks-none row (answer_in rows) there
-  | inr none ↦ ap (λ (n : ℕ). answer_in (drop n (row ∷ rows))) (first-later row rows none) ∙ none-answered rows
-]
-
-answered-before : (xs ys : List RowValue) → answer_in ys ≡ None → answer_in (xs ++ ys) ≡ answer_in xs
-answered-before [] ys none = none
-answered-before (row ∷ xs) ys none = ap (answer_by (message_in row)) (answered-before xs ys none)
-
--- Requests.
-
-last-asks : (count : ℕ) (rows : List RowValue) → 0 < last_request count rows → asks (slice_get rows (last_request count rows)) ≡ true
-last-asks zero rows some = absurd (omega (arith, some))
-last-asks (suc count) rows some = elim (cases_Bool (asks (slice_get rows count))) [
-  | inl there ↦ ap (λ (n : ℕ). asks (slice_get rows n)) (last-there count rows there) ∙ there
-  | inr none ↦
-      let earlier = last-earlier count rows none in
-      ap (λ (n : ℕ). asks (slice_get rows n)) earlier ∙ last-asks count rows (omega (arith, some, earlier))
-]
-
-asks-within : (rows : List RowValue) (at : ℕ) → asks (slice_get rows at) ≡ true → at < length rows
-asks-within [] at there = absurd (cc there)
-asks-within (row ∷ rows) zero there = omega arith
-asks-within (row ∷ rows) (suc at) there = omega (arith, asks-within rows at there)
-
--- a request among the first rows stands at the last one, or before it
-asks-before : (count at : ℕ) (rows : List RowValue) → asks (slice_get rows at) ≡ true → at < count → at ≤ last_request count rows
-asks-before zero at rows there low = absurd (omega (arith, low))
-asks-before (suc count) at rows there low = elim (cases_Bool (asks (slice_get rows count))) [
-  | inl last ↦ omega (arith, low, last-there count rows last)
-  | inr none ↦ elim (cases_lt at count) [
-    | inl before ↦ omega (arith, last-earlier count rows none, asks-before count at rows there before)
-    | inr past ↦
-        let same : at ≡ count = omega (arith, low, past) in
-        let clash : true ≡ false = sym there ∙ ap (λ (n : ℕ). asks (slice_get rows n)) same ∙ none in
-        absurd (cc clash)
-  ]
-]
-
-none-asks : (rows : List RowValue) (count : ℕ) → ((at : ℕ) → at < count → asks (slice_get rows at) ≡ false) → list_any begins_exchange (take count rows) ≡ false
-none-asks rows zero each = refl
-none-asks [] (suc count) each = refl
-none-asks (row ∷ rows) (suc count) each =
-    let first = each 0 (omega arith) in
-    let later = none-asks rows count (λ at low. each (suc at) (omega (arith, low))) in
-    ap (λ (b : Bool). b || list_any begins_exchange (take count rows)) first ∙ later
+use Rattle.trace_pair.proofs.ChartPlaces.{first-to, from-first, get-past, last-below, to-within, up-by}
+use Rattle.trace_pair.proofs.BegunRows.{before-next}
+use Rattle.trace_pair.proofs.ChartRequests.{get-taken, last-asks, asks-within, asks-before, none-asks, none-answered, answered-before}
 
 module _ (item : ℕ) (rows : List RowValue) where
   abbrev from : ℕ

@@ -1,5 +1,6 @@
 -- Where the rows of a chart begin and end, as the code computes it.
-use Rattle.std.proofs.Common.{◌≡◌, ℕ, zero, suc, ◌+◌, ◌-◌, ◌≤◌, ◌<◌, ◌^◌, Bool, true, false, List, [], ◌∷◌, length, take, drop, None, ap, sym, ◌∙◌, arith, refl, inl, inr}
+use Rattle.std.proofs.Common.{◌≡◌, ℕ, zero, suc, ◌+◌, ◌-◌, ◌≤◌, ◌<◌, ◌^◌, Bool, true, false, List, []}
+use Rattle.std.proofs.Common.{◌∷◌, length, take, drop, None, ap, sym, ◌∙◌, arith, refl, inl, inr}
 use Rattle.std.specs.Prelude.{◌==◌, max, min, slice_get, if◌then◌else◌}
 use Rattle.std.proofs.lemmas.Bool.{cases_Bool, cases_lt, eq-eqb, eqb-true, eqb-false, ne_eqb}
 use Rattle.std.proofs.lemmas.List.{drop_all, length-drop}
@@ -8,7 +9,8 @@ use Rattle.trace_report.specs.Items.{rows_before}
 use Rattle.trace_report.specs.Rows.{RowValue}
 use Rattle.trace_pair.specs.FirstDifference.{asks, before_request, chart_from, chart_rows, chart_to, last_request, rows_more}
 use Rattle.trace_pair.specs.Losses.{first_row}
-use Rattle.trace_pair.proofs.LossPlaces.{before-all, before-up, before-within, first-earlier}
+use Rattle.trace_pair.proofs.BegunRows.{before-all, before-up, before-within}
+use Rattle.trace_pair.proofs.LossPlaces.{first-earlier}
 
 -- two numbers are equal where two others are
 same-test : (a b x y : ℕ) → (a ≡ b → x ≡ y) → (x ≡ y → a ≡ b) → (a == b) ≡ (x == y)

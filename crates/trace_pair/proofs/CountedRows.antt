@@ -13,9 +13,10 @@ use Rattle.shown_rows.specs.Laws.{rows_of_change}
 use Rattle.shown_rows.specs.Rows.{count_of, differs, is_change, same_row}
 use Rattle.shown_rows.specs.declared.changes.Change.{Change}
 use Rattle.shown_rows.proofs.Promises.{changes_have_each_row}
-use Rattle.trace_report.specs.Verdict.{verdict_head}
+use Rattle.trace_report.specs.Verdict.{verdict_front}
 use Rattle.trace_pair.specs.RowLaws.{HeadingCountsTheRows, ToldKind, differing_kinds, heading, number_of, rows_in_change, so_many, told}
-use Rattle.trace_pair.specs.Verdict.{bound_line, counts_words, different_heading, different_verdict, differences_word, items_word, lossy_line_of, same_words, size_line}
+use Rattle.trace_pair.specs.Verdict.{bound_line, counts_words, different_heading, different_verdict, differences_word}
+use Rattle.trace_pair.specs.Verdict.{items_word, lossy_line_of, same_words, size_line}
 
 -- How many rows are of a kind.
 
@@ -115,7 +116,7 @@ heading_of rows = different_heading (length (changes rows)) (count_of Same rows)
 
 module _ (rows : List Row) (rest : List ℕ) where
   abbrev head : List ℕ
-  head = verdict_head (codes "warn") (codes "&#8800;")
+  head = verdict_front (codes "warn") (codes "&#8800;")
 
   abbrev link : List ℕ
   link = codes " <a href=\"#difference\">"

@@ -15,6 +15,7 @@ pub mod ChartRows
 pub mod ChangeSteps
 pub mod ListedChanges
 pub mod LossyChanges
+pub mod BegunRows
 pub mod LossPlaces
 mod LossesOnce
 mod LossyRows
@@ -26,6 +27,7 @@ mod Beside
 mod OwnItems
 mod FirstChanges
 mod Agreeing
+mod ChartRequests
 mod ChartItems
 mod DifferingOutcomes
 mod ToldOutcomes

@@ -1,5 +1,6 @@
 -- The losses of an item are those that its rows tell: from the row with which it begins up to that of the next item.
-use Rattle.std.proofs.Common.{◌≡◌, ℕ, zero, suc, ◌+◌, ◌-◌, ◌≤◌, ◌<◌, Bool, true, false, List, [], ◌∷◌, ◌++◌, length, take, drop, ap, sym, ◌∙◌, arith, refl, inl, inr}
+use Rattle.std.proofs.Common.{◌≡◌, ℕ, zero, suc, ◌+◌, ◌-◌, ◌≤◌, ◌<◌, Bool, true, false, List, []}
+use Rattle.std.proofs.Common.{◌∷◌, ◌++◌, length, take, drop, ap, sym, ◌∙◌, arith, refl, inl, inr}
 use Rattle.std.specs.Prelude.{◌==◌, ◌&&◌, if◌then◌else◌}
 use Rattle.std.specs.List.{filter}
 use Rattle.std.proofs.lemmas.Bool.{cases_Bool, eq-eqb, ne_eqb}
@@ -9,11 +10,12 @@ use Rattle.trace_report.specs.Rows.{RowValue, message, no_answer, dropped, ended
 use Rattle.trace_pair.specs.Losses.{count_begun, first_row, is_loss, losses_behind, losses_from, losses_in_front, losses_of}
 use Rattle.trace_pair.specs.proving.Losing.{lost}
 use Rattle.pair_words.proofs.Promises.{cut-joined, cut-none}
+use Rattle.trace_pair.proofs.BegunRows.{begins-first, begins-next, begins-none, before-up, before-all}
 
 -- a row with which an item begins tells no loss
 no-loss : (row : RowValue) → begins row ≡ true → is_loss row ≡ false
 no-loss (message is d place bytes) begun = refl
-no-loss (no_answer number silent) begun = refl
+no-loss (no_answer number silence) begun = refl
 no-loss (dropped place d linked why) begun = absurd (cc begun)
 no-loss (ended place end) begun = absurd (cc begun)
 no-loss (unfinished d line len) begun = absurd (cc begun)
@@ -41,71 +43,6 @@ own-with : (loss own : Bool) (row : RowValue) (rest : List RowValue) → own ≡
 own-with true true row rest is = refl
 own-with true false row rest is = absurd (cc is)
 own-with false own row rest is = refl
-
--- Where items begin.
-
-module _ (row : RowValue) (rows : List RowValue) where
-  pub begins-first : begins row ≡ true → rows_before 0 (row ∷ rows) ≡ 0
-  begins-first begun = ap (λ (b : Bool). if b then 0 else 1 + rows_before 0 rows) begun
-
-  pub begins-next : (item : ℕ) → begins row ≡ true → rows_before (item + 1) (row ∷ rows) ≡ suc (rows_before item rows)
-  begins-next item begun =
-      let later : (item + 1 == 0) ≡ false = ne_eqb (item + 1) 0 (λ same. omega arith) in
-      let less : item + 1 - 1 ≡ item = omega arith in
-      let one : 1 + rows_before item rows ≡ suc (rows_before item rows) = omega arith in
-      ap (λ (b : Bool). if b then (if item + 1 == 0 then 0 else 1 + rows_before (item + 1 - 1) rows) else 1 + rows_before (item + 1) rows) begun
-      ∙ ap (λ (b : Bool). if b then 0 else 1 + rows_before (item + 1 - 1) rows) later ∙ ap (λ (n : ℕ). 1 + rows_before n rows) less ∙ one
-
-  pub begins-none : (item : ℕ) → begins row ≡ false → rows_before item (row ∷ rows) ≡ suc (rows_before item rows)
-  begins-none item begun =
-      let one : 1 + rows_before item rows ≡ suc (rows_before item rows) = omega arith in
-      ap (λ (b : Bool). if b then (if item == 0 then 0 else 1 + rows_before (item - 1) rows) else 1 + rows_before item rows) begun ∙ one
-
-pub before-within : (item : ℕ) (rows : List RowValue) → rows_before item rows ≤ length rows
-before-within item [] = omega arith
-before-within item (row ∷ rows) = elim (cases_Bool (begins row)) [
-  | inl begun ↦ of-begun item (λ n. before-within n rows) begun
-  | inr none ↦ omega (arith, begins-none row rows item none, before-within item rows)
-]
-  where
-    of-begun : (item : ℕ) → ((n : ℕ) → rows_before n rows ≤ length rows) → begins row ≡ true → rows_before item (row ∷ rows) ≤ suc (length rows)
-    of-begun zero rest begun = omega (arith, begins-first row rows begun)
-    of-begun (suc n) rest begun =
-        let next : suc n ≡ n + 1 = omega arith in
-        let is = ap (λ (m : ℕ). rows_before m (row ∷ rows)) next ∙ begins-next row rows n begun in
-        omega (arith, is, rest n)
-
-pub before-up : (item : ℕ) (rows : List RowValue) → rows_before item rows ≤ rows_before (item + 1) rows
-before-up item [] = omega arith
-before-up item (row ∷ rows) = elim (cases_Bool (begins row)) [
-  | inl begun ↦ of-begun item (λ n. before-up n rows) begun
-  | inr none ↦ omega (arith, begins-none row rows item none, begins-none row rows (item + 1) none, before-up item rows)
-]
-  where
-    of-begun : (item : ℕ) → ((n : ℕ) → rows_before n rows ≤ rows_before (n + 1) rows) → begins row ≡ true → rows_before item (row ∷ rows) ≤ rows_before (item + 1) (row ∷ rows)
-    of-begun zero rest begun = omega (arith, begins-first row rows begun)
-    of-begun (suc n) rest begun =
-        let next : suc n ≡ n + 1 = omega arith in
-        let is = ap (λ (m : ℕ). rows_before m (row ∷ rows)) next ∙ begins-next row rows n begun in
-        let later = begins-next row rows (suc n) begun in
-        let again = ap (λ (m : ℕ). rows_before m rows) next in
-        omega (arith, is, later, again, rest n)
-
--- all rows stand before an item that is not there
-pub before-all : (item : ℕ) (rows : List RowValue) → length rows ≤ item → rows_before item rows ≡ length rows
-before-all item [] past = refl
-before-all item (row ∷ rows) past = elim (cases_Bool (begins row)) [
-  | inl begun ↦ of-begun item (λ n. before-all n rows) past begun
-  | inr none ↦ omega (arith, begins-none row rows item none, before-all item rows (omega (arith, past)))
-]
-  where
-    of-begun : (item : ℕ) → ((n : ℕ) → length rows ≤ n → rows_before n rows ≡ length rows) → suc (length rows) ≤ item → begins row ≡ true
-        → rows_before item (row ∷ rows) ≡ suc (length rows)
-    of-begun zero rest past begun = absurd (omega (arith, past))
-    of-begun (suc n) rest past begun =
-        let next : suc n ≡ n + 1 = omega arith in
-        let is = ap (λ (m : ℕ). rows_before m (row ∷ rows)) next ∙ begins-next row rows n begun in
-        omega (arith, is, rest n (omega (arith, past)))
 
 -- The rows of an item.
 

@@ -10,7 +10,8 @@ use Rattle.trace_report.specs.Rows.{RowValue, message, no_answer, dropped, ended
 use Rattle.trace_pair.specs.LossLaws.{EachLossStandsOnce}
 use Rattle.trace_pair.specs.Losses.{first_row, losses_of}
 use Rattle.trace_pair.specs.proving.Losing.{lost}
-use Rattle.trace_pair.proofs.LossPlaces.{begins-next, begins-none, first-later, first-some, first-up, losses-are-lost, lost-joined, lost-passes, piece}
+use Rattle.trace_pair.proofs.BegunRows.{begins-next, begins-none}
+use Rattle.trace_pair.proofs.LossPlaces.{first-later, first-some, first-up, losses-are-lost, lost-joined, lost-passes, piece}
 use Rattle.pair_words.proofs.Promises.{cut-joined, cut-none}
 
 -- the losses of so many items, from this one on
@@ -38,7 +39,7 @@ items-more (message is d place bytes) rows = by (record { role = is; dir = d; pl
     by : (sent : RowMessageValue) (begun : Bool) → length (items_by (if begun then Some sent else None) rows (items_in rows)) ≡ (if begun then suc (length (items_in rows)) else length (items_in rows))
     by sent true = refl
     by sent false = refl
-items-more (no_answer number silent) rows = refl
+items-more (no_answer number silence) rows = refl
 items-more (dropped place d linked why) rows = refl
 items-more (ended place end) rows = refl
 items-more (unfinished d line len) rows = refl

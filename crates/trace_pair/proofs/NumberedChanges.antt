@@ -1,5 +1,6 @@
 -- The differences that rows of the table of items begin, and the numbers to which the page links.
-use Rattle.std.proofs.Common.{◌≡◌, ℕ, zero, suc, ◌+◌, ◌-◌, ◌≤◌, ◌<◌, Bool, true, false, List, [], ◌∷◌, ◌++◌, Option, Some, None, option_to_list, map, length, take, ap, sym, subst, ◌∙◌, arith, refl, inl, inr}
+use Rattle.std.proofs.Common.{◌≡◌, ℕ, zero, suc, ◌+◌, ◌-◌, ◌≤◌, ◌<◌, Bool, true, false, List, [], ◌∷◌, ◌++◌, Option, Some}
+use Rattle.std.proofs.Common.{None, option_to_list, map, length, take, ap, sym, subst, ◌∙◌, arith, refl, inl, inr}
 use Rattle.std.specs.Prelude.{◌==◌, if◌then◌else◌, nat_le, nat_lt, slice_get}
 use Rattle.std.specs.List.{AllByRecursion, flat_map, range_with_len}
 use Rattle.std.proofs.lemmas.Bool.{cases_lt, eqb-true, le-leb, le-ltb, lt-leb, lt-ltb}
@@ -15,7 +16,8 @@ use Rattle.trace_pair.specs.declared.item_row.RowPlace.{RowPlace}
 use Rattle.trace_pair.specs.Differences.{difference_lines}
 use Rattle.trace_pair.specs.LinkLaws.{DifferencesAreTheChanges, LinksNameIdentifiers, ListLeadsToTheTable, differences, identifier}
 use Rattle.trace_pair.specs.TableLaws.{table_rows}
-use Rattle.trace_pair.specs.Links.{NumberedChange, difference_at, difference_in, linked_numbers, listed_line, number_alone, number_behind, number_in, number_unlisted, numbered}
+use Rattle.trace_pair.specs.Links.{NumberedChange, difference_at, difference_in, linked_numbers, listed_line}
+use Rattle.trace_pair.specs.Links.{number_alone, number_behind, number_in, number_unlisted, numbered}
 use Rattle.trace_pair.specs.RowStretches.{PlacedRow, changes_with, placed_from}
 use Rattle.trace_pair.proofs.RowsOnce.{links_have_targets, of-table}
 

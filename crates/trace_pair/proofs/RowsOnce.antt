@@ -1,5 +1,6 @@
 -- The rows of the table of items: each once, with its items and its number.
-use Rattle.std.proofs.Common.{◌≡◌, ℕ, zero, suc, ◌+◌, ◌-◌, ◌/◌, min, Bool, true, false, List, [], ◌∷◌, ◌++◌, map, length, take, drop, ap, ap₂, sym, ◌∙◌, arith, refl, option_to_list}
+use Rattle.std.proofs.Common.{◌≡◌, ℕ, zero, suc, ◌+◌, ◌-◌, ◌/◌, min, Bool, true, false, List, [], ◌∷◌, ◌++◌}
+use Rattle.std.proofs.Common.{map, length, take, drop, ap, ap₂, sym, ◌∙◌, arith, refl, option_to_list}
 use Rattle.std.specs.Prelude.{if◌then◌else◌, Some, None}
 use Rattle.std.specs.List.{flat_map, range_with_len}
 use Rattle.std.proofs.lemmas.List.{length-drop, take-append-drop}
@@ -14,7 +15,8 @@ use Rattle.pair_words.specs.declared.log.PairLog.TheVariants.{A, B}
 use Rattle.trace_pair.specs.ItemRows.{begun_number}
 use Rattle.trace_pair.specs.TableLaws.{EachItemStandsOnce, EachRowStandsOnce, item_place, kind_of, rows_in, rows_of_table, table_rows}
 use Rattle.trace_pair.specs.LinkLaws.{LinksHaveTargets, identifier}
-use Rattle.trace_pair.specs.RowStretches.{PlacedRow, Stretch, shown, folded, begun, changes_with, fold_rows, folded_row, parts_of, placed, placed_from, placed_row, same_rows, stretches, tables_of, with_folded, with_seen}
+use Rattle.trace_pair.specs.RowStretches.{PlacedRow, Stretch, shown, folded, begun, changes_with, fold_rows, folded_row, parts_of, placed}
+use Rattle.trace_pair.specs.RowStretches.{placed_from, placed_row, same_rows, stretches, tables_of, with_folded, with_seen}
 use Rattle.trace_pair.proofs.ItemPlaces.{left-placed, left_places, right-placed, right_places}
 
 -- The tables of a stretch have its rows.

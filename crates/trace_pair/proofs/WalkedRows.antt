@@ -1,5 +1,6 @@
 -- The rows of the table of items, as they are written one after another: the stretches that they are cut into.
-use Rattle.std.proofs.Common.{◌≡◌, ℕ, zero, suc, ◌+◌, ◌-◌, Bool, true, false, List, [], ◌∷◌, ◌++◌, length, append_assoc, append-nil, ap, ap₂, sym, ◌∙◌, arith, refl}
+use Rattle.std.proofs.Common.{◌≡◌, ℕ, zero, suc, ◌+◌, ◌-◌, Bool, true, false, List, [], ◌∷◌, ◌++◌}
+use Rattle.std.proofs.Common.{length, append_assoc, append-nil, ap, ap₂, sym, ◌∙◌, arith, refl}
 use Rattle.std.specs.Prelude.{nat_lt, if◌then◌else◌}
 use Rattle.std.proofs.lemmas.Bool.{lt-ltb}
 use Rattle.uds_difference.specs.declared.row.Row.{Row}
@@ -14,7 +15,8 @@ use Rattle.trace_pair.specs.declared.standing.Table.{Table}
 use Rattle.trace_pair.specs.declared.standing.Table.TheVariants.{Closed}
 use Rattle.trace_pair.specs.ItemTables.{block_count, fold_text, placed_text, stretch_text, stretches_text}
 use Rattle.trace_pair.specs.RowStretches.{PlacedRow, Stretch, shown, folded, changes_with, placed, placed_from, placed_row, stretches, with_folded, with_seen}
-use Rattle.trace_pair.specs.proving.Standings.{at_start, blocks_behind, fold_at, opening, rows_behind, seen_text, table_behind, table_end, with_fold, with_shown}
+use Rattle.trace_pair.specs.proving.Standings.{at_start, blocks_behind, fold_at, opening, rows_behind, seen_text}
+use Rattle.trace_pair.specs.proving.Standings.{table_behind, table_end, with_fold, with_shown}
 use Rattle.trace_pair.proofs.SeenTables.{all-seen, blocks-seen, blocks_after, seen_behind}
 
 -- The stretches of rows, and the fold that is the first of them.

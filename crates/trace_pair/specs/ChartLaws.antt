@@ -1,4 +1,5 @@
--- What holds of the charts of a page of two logs: which rows of its log one has, and what it tells of those that it leaves out.
+-- What holds of the charts of a page of two logs: which rows of its log one has, and what it tells of those that it
+-- leaves out.
 use Rattle.std.specs.Prelude.{◌≡◌, ◌≤◌, ◌⊎◌, ℕ, suc, ◌+◌, ◌-◌, true, false, List, [], ◌++◌, drop, length, take, slice_get, ◌<◌}
 use Rattle.std.specs.List.{list_any}
 use Rattle.trace_report.specs.Blocks.{begins_exchange}
@@ -15,8 +16,8 @@ pub record IsAround (item : ℕ) (rows front behind : List RowValue) : Type 0 wh
   pub begins : (front ≡ []) ⊎ (((asks (slice_get (chart_rows item rows) 0) ≡ true) × (length front ≤ first_row (item - 1) rows)) ⊎ (length front + most_before ≡ rows_before item rows))
   -- and behind its first row none is a request up to the first one that belongs to the item before
   pub last : list_any begins_exchange (take (first_row (item - 1) rows - length front) (drop 1 (chart_rows item rows))) ≡ false
-  -- around the log's first item, or the second, it begins with the log's first row, and so has what is lost in front of them;
-  -- or it has so many rows before the item's own as it has there at most
+  -- around the log's first item, or the second, it begins with the log's first row, and so has what is lost in front of
+  -- them; or it has so many rows before the item's own as it has there at most
   pub lost : item ≤ 1 → ((front ≡ []) ⊎ (length front + most_before ≡ rows_before item rows))
   pub before : length front ≤ rows_before item rows
   pub near : rows_before item rows ≤ length front + most_before
@@ -33,8 +34,9 @@ pub record IsAround (item : ℕ) (rows front behind : List RowValue) : Type 0 wh
 abbrev pub ChartHasTheItem : Type 0
 ChartHasTheItem = (item : ℕ) (rows : List RowValue) → (front behind : List RowValue) × IsAround item rows front behind
 
--- Of so many items from the one of a place on, a chart around that tells the last ones as items more: these begin behind its
--- rows, and behind those of which it tells that it leaves them out. Each of the others begins in front of that.
+-- Of so many items from the one of a place on, a chart around that tells the last ones as items more: these begin
+-- behind its rows, and behind those of which it tells that it leaves them out. Each of the others begins in front of
+-- that.
 abbrev pub ChartCountsTheRun : Type 0
 ChartCountsTheRun = (item count : ℕ) (rows : List RowValue) (here : ℕ) → item ≤ here → here < item + count
     → (here + items_more item count rows < item + count → rows_before here rows < chart_to item rows)

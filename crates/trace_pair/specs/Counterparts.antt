@@ -103,8 +103,8 @@ marks_in chart None = None
 marks_in chart (Some here) = marks_of chart.log (changed_item here.kind chart.left here.left) (changed_item here.kind chart.right here.right)
 
 -- what a chart marks of the item of this number
-abbrev pub marks_at : Charted → ℕ → Option Marked
-marks_at chart number = marks_in chart (row_with chart.log number chart.rows)
+abbrev pub marked_at : Charted → ℕ → Option Marked
+marked_at chart number = marks_in chart (row_with chart.log number chart.rows)
 
 -- the message of the other log beside which one of this role is written, if it is
 abbrev pub counterpart : Option Marked → MessageRole → Option (List ℕ)

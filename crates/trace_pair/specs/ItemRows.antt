@@ -1,5 +1,7 @@
--- The rows of the table of items: an item that is the same in both logs, one that only one log has, or two that changed.
-use Rattle.std.specs.Prelude.{ℕ, ◌+◌, ◌==◌, Bool, true, false, ◌||◌, List, [], ◌++◌, codes, nat_lt, Option, Some, None, is_some, option_map, slice_get, if◌then◌else◌}
+-- The rows of the table of items: an item that is the same in both logs, one that only one log has, or two that
+-- changed.
+use Rattle.std.specs.Prelude.{ℕ, ◌+◌, ◌==◌, Bool, true, false, ◌||◌, List, [], ◌++◌, codes, nat_lt}
+use Rattle.std.specs.Prelude.{Option, Some, None, is_some, option_map, slice_get, if◌then◌else◌}
 use Rattle.std.specs.Fmt.{decimal}
 use Rattle.uds_difference.specs.Likeness.{same_bytes}
 use Rattle.uds_difference.specs.declared.row.Row.{Row}
@@ -34,8 +36,8 @@ are_masked rules xs ys = is_some (mask_of rules xs) || is_some (mask_of rules ys
 abbrev pub message_line : List RuleValue → PairLog → List ℕ → List ℕ
 message_line rules log bytes = codes "<div>" ++ letter_mark log ++ data_text rules bytes ++ codes "</div>"
 
--- Two messages that differ: byte under byte, and as text, too, where one of them may be text; but where rules mask one of
--- them, each in a line of its own.
+-- Two messages that differ: byte under byte, and as text, too, where one of them may be text; but where rules mask one
+-- of them, each in a line of its own.
 abbrev pub both_bytes : List RuleValue → List ℕ → List ℕ → List ℕ
 both_bytes rules xs ys =
     if are_masked rules xs ys
@@ -187,7 +189,8 @@ abbrev pub top_of : List RuleValue → Option Begun → Row → Option PlacedIte
 top_of rules None kind one other = []
 top_of rules (Some begun) kind one other = top rules begun.number begun.all kind begun.count one other
 
--- a row of the table: its numbers, the change that begins with it, its items, when they were, and what is missing of them
+-- a row of the table: its numbers, the change that begins with it, its items, when they were, and what is missing of
+-- them
 abbrev pub row_text : SessionValue → SessionValue → RowPlace → Option Begun → List ℕ
 row_text left right place begun =
     row_start place.kind (begun_number begun) ++ numbers place.kind place.left place.right

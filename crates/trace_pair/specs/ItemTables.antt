@@ -70,7 +70,7 @@ open_blocks = 4
 -- the start of a block, which is a table that folds, by how many stand before it, and by how many items of both
 abbrev pub block_start : ℕ → ℕ → ℕ → List ℕ
 block_start blocks left right =
-    (if nat_lt blocks open_blocks then codes "<details class=\"b\" open>\n<summary>From A&#160;" else codes "<details class=\"b\">\n<summary>From A&#160;")
+    codes "<details class=\"b\"" ++ (if nat_lt blocks open_blocks then codes " open" else []) ++ codes ">\n<summary>From A&#160;"
     ++ decimal (left + 1) ++ codes ", B&#160;" ++ decimal (right + 1) ++ codes "</summary>\n" ++ table_start
 
 -- a block of rows, if there are any

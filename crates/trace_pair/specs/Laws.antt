@@ -18,8 +18,8 @@ use Rattle.trace_pair.specs.Compared.{comparison_by, comparison_in}
 use Rattle.trace_pair.specs.Sessions.{values_in}
 use Rattle.trace_pair.specs.Style.{page_style}
 
--- No byte of its style is a <: what would end the element that it stands in begins with that, and so does a comment, which
--- could hide what stands behind it.
+-- No byte of its style is a <: what would end the element that it stands in begins with that, and so does a comment,
+-- which could hide what stands behind it.
 abbrev pub StyleHoldsNoTag : Type 0
 StyleHoldsNoTag = list_any (λ b. b == code "<") page_style ≡ false
 

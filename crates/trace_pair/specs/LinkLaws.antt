@@ -17,8 +17,8 @@ use Rattle.trace_pair.specs.TableLaws.{table_rows}
 abbrev pub identifier : PlacedRow → List ℕ
 identifier row = option_to_list (begun_number row.begins)
 
--- The rows of the table of items have as identifiers the numbers of all changes, from 1 on, each once. These are what the
--- links of the page lead to: of the list, of its end, and from one change to the next.
+-- The rows of the table of items have as identifiers the numbers of all changes, from 1 on, each once. These are what
+-- the links of the page lead to: of the list, of its end, and from one change to the next.
 abbrev pub LinksHaveTargets : Type 0
 LinksHaveTargets = (rows : List Row) → flat_map identifier (table_rows rows) ≡ range_with_len 1 (length (changes rows))
 
@@ -26,7 +26,8 @@ LinksHaveTargets = (rows : List Row) → flat_map identifier (table_rows rows) �
 abbrev pub differences : List Row → List NumberedChange
 differences rows = flat_map difference_in (table_rows rows)
 
--- they are all changes, in order: each of its kind, at its place, with as many rows, with its number, and as one of so many
+-- they are all changes, in order: each of its kind, at its place, with as many rows, with its number, and as one of so
+-- many
 abbrev pub DifferencesAreTheChanges : Type 0
 DifferencesAreTheChanges = (rows : List Row) → differences rows ≡ numbered (length (changes rows)) 1 (changes rows)
 
@@ -47,8 +48,8 @@ HasAttribute name value text = (front : List ℕ) × (behind : List ℕ) × (tex
 abbrev pub HasLinkTo : ℕ → List ℕ → Type 0
 HasLinkTo number text = HasAttribute (codes "href") (codes "#" ++ difference_name number) text
 
--- A row with which a difference begins has as identifier what each link to that difference names: that of its line in the
--- list, that above the one before it, and that of the end of the list. No two differences have one name.
+-- A row with which a difference begins has as identifier what each link to that difference names: that of its line in
+-- the list, that above the one before it, and that of the end of the list. No two differences have one name.
 abbrev pub LinksSpellIdentifiers : Type 0
 LinksSpellIdentifiers = (number : ℕ)
     → ((kind : Row) → HasAttribute (codes "id") (difference_name number) (row_start kind (Some number)))

@@ -52,8 +52,8 @@ number_unlisted count = if nat_le count listed_differences then [] else first_un
 abbrev pub number_alone : ℕ → List ℕ
 number_alone count = if count == 1 then first_number ∷ [] else []
 
--- the numbers of the differences to which a page with these links: from its list, from the end of that, from the section of
--- the only one, and from each to the next
+-- the numbers of the differences to which a page with these links: from its list, from the end of that, from the
+-- section of the only one, and from each to the next
 abbrev pub linked_numbers : List NumberedChange → List ℕ
 linked_numbers all =
     map number_in (take listed_differences all) ++ number_unlisted (length all) ++ number_alone (length all) ++ flat_map number_behind all

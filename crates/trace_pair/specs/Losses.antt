@@ -1,4 +1,5 @@
--- What is missing in a log, and where it stands: each dropped frame, and each message that is not whole, belongs to an item.
+-- What is missing in a log, and where it stands: each dropped frame, and each message that is not whole, belongs to an
+-- item.
 use Prim.Native.Nat.{zero, suc}
 use Rattle.std.specs.Prelude.{ℕ, ◌+◌, ◌-◌, ◌==◌, Bool, true, false, ◌&&◌, List, [], ◌∷◌, ◌++◌, codes, length, nat_le, take, if◌then◌else◌}
 use Rattle.std.specs.Fmt.{decimal}
@@ -12,7 +13,7 @@ use Rattle.pair_words.specs.Logs.{letter, letter_mark}
 -- a row tells that something is missing
 abbrev pub is_loss : RowValue → Bool
 is_loss (message is d place bytes) = false
-is_loss (no_answer number silent) = false
+is_loss (no_answer number silence) = false
 is_loss (dropped place d linked why) = true
 is_loss (ended place end) = true
 is_loss (unfinished d line len) = true
@@ -41,18 +42,23 @@ abbrev pub losses_from : List RowValue → ℕ → ℕ → ℕ
 losses_from rows item zero = 0
 losses_from rows item (suc more) = length (losses_of rows item) + losses_from rows (item + 1) more
 
--- How much is missing in front of the item of a place, where another log has items that this one lacks: of the item before
--- it; in front of the first one, what is missing before the row with which that begins, or of a log without an item.
+-- How much is missing in front of the item of a place, where another log has items that this one lacks: of the item
+-- before it; in front of the first one, what is missing before the row with which that begins, or of a log without an
+-- item.
 abbrev pub losses_in_front : List RowValue → ℕ → ℕ
 losses_in_front rows zero = length (filter is_loss (take (rows_before 0 rows) rows))
 losses_in_front rows (suc before) = length (losses_of rows before)
 
+-- the line of a frame, before what became of it
+abbrev pub line_mark : ℕ → List ℕ
+line_mark line = codes "line " ++ decimal line ++ codes ": "
+
 -- a loss in words, without its place
 abbrev pub loss_words : RowValue → List ℕ
 loss_words (message is d place bytes) = []
-loss_words (no_answer number silent) = []
-loss_words (dropped place d linked why) = codes "line " ++ decimal place.line ++ codes ": " ++ dropped_words d why
-loss_words (ended place end) = codes "line " ++ decimal place.line ++ codes ": " ++ ended_words end
+loss_words (no_answer number silence) = []
+loss_words (dropped place d linked why) = line_mark place.line ++ dropped_words d why
+loss_words (ended place end) = line_mark place.line ++ ended_words end
 loss_words (unfinished d line len) = unfinished_words d line len
 
 -- a loss of a log, in a line of its own

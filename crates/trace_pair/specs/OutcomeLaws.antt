@@ -46,7 +46,8 @@ told_whole Changed one other = None
 told_whole OnlyLeft one other = one
 told_whole OnlyRight one other = other
 
--- Wherever the page tells that an item has no answer, or is silent, it has none, and its request asks for one, or for none.
+-- Wherever the page tells that an item has no answer, or is silent, it has none, and its request asks for one, or for
+-- none.
 pub record UnansweredHasNone : Type 0 where
   -- what came of a request
   pub came : (request : List ℕ) (answer : Option (List ℕ)) (silent : Bool) → came_of request answer ≡ none_outcome silent → HasNone silent (exchange request answer)
@@ -66,7 +67,8 @@ pub record UnansweredHasNone : Type 0 where
   pub in_mark : (rules : List RuleValue) (log : PairLog) (request : List ℕ) (answer : Option RowMessageValue) (silent : Bool)
       → outcome_line rules log request answer ≡ codes "<div>" ++ letter_mark log ++ codes "&#8594; <mark>" ++ outcome_mark (none_outcome silent) ++ codes "</mark></div>"
       → (answer ≡ None) × (is_suppressing request ≡ silent)
-  -- and in what differs of two exchanges, in the list and above their row, it is told of the log that has none: of the first
+  -- and in what differs of two exchanges, in the list and above their row, it is told of the log that has none: of the
+  -- first
   pub of_left : (rules : List RuleValue) (request other reply : List ℕ)
       → differ rules (exchange request None) (exchange other (Some reply))
       ≡ asked_words rules request other ++ (none_words A (is_suppressing request) ++ between (none_outcome (is_suppressing request)) ++ outcome_in B false (came_of other (Some reply)))

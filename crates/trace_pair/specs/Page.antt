@@ -6,14 +6,14 @@ use Rattle.trace_log.specs.declared.fault.Fault.{Fault}
 use Rattle.trace_log.specs.declared.fault.Fault.TheVariants.{BadLine, LogLimit, Oversize, OutputLimit, Read, Write, Memory}
 use Rattle.trace_report.specs.Causes.{cause_line, cause_of}
 use Rattle.trace_report.specs.Counts.{counts_text}
-use Rattle.trace_report.specs.Front.{identifiers_text, page_start, shapes_text}
+use Rattle.trace_report.specs.Front.{identifiers_text, document_front, shapes_text}
 use Rattle.shown_bytes.specs.LogNames.{name_text}
 use Rattle.trace_report.specs.RulesStyle.{rules_style}
 use Rattle.uds_rules.specs.Rule.{RuleValue}
 use Rattle.trace_report.specs.Kept.{KeptSessionsValue}
 use Rattle.trace_report.specs.Session.{SessionValue}
 use Rattle.trace_report.specs.Sorts.{counts_in}
-use Rattle.trace_report.specs.Verdict.{refusal_words, span_of, verdict_head}
+use Rattle.trace_report.specs.Verdict.{refusal_words, span_of, verdict_front}
 use Rattle.trace_report.specs.declared.cause.RefusalCause.{RefusalCause}
 use Rattle.trace_run.specs.Script.{GlimpseValue}
 use Rattle.uds_difference.specs.Bound.{bound_for}
@@ -24,10 +24,10 @@ use Rattle.pair_words.specs.declared.log.PairLog.{PairLog}
 use Rattle.pair_words.specs.declared.log.PairLog.TheVariants.{A, B}
 use Rattle.trace_pair.specs.Differences.{list_text}
 use Rattle.trace_pair.specs.FirstDifference.{first_text}
-use Rattle.trace_pair.specs.Help.{help_text}
+use Rattle.trace_pair.specs.Help.{pair_help_text}
 use Rattle.trace_pair.specs.ItemTables.{items_text}
 use Rattle.pair_words.specs.Logs.{letter, lettered_name}
-use Rattle.trace_pair.specs.PairRules.{rules_of_both}
+use Rattle.trace_pair.specs.PairRules.{rules_of_both, uncounted_rules}
 use Rattle.trace_pair.specs.Recordings.{recordings}
 use Rattle.trace_pair.specs.Sessions.{values_in}
 use Rattle.trace_pair.specs.Titles.{TitleValue}
@@ -43,19 +43,20 @@ links count =
     ++ (if count == 0 then [] else if count == 1 then codes "<a href=\"#difference\">The difference</a> " else codes "<a href=\"#difference\">The first</a> ")
     ++ codes "<a href=\"#items\">Items</a> <a href=\"#help\">How to read this page</a></p>\n"
 
--- the notice of a page that breaks off, which is hidden unless the style shows it, where the end of the page is missing;
--- and the end of the header
-abbrev pub cut_notice : List ℕ
-cut_notice =
+-- the notice of a page that breaks off, which is hidden unless the style shows it, where the end of the page is
+-- missing; and the end of the header
+abbrev pub pair_cut_notice : List ℕ
+pair_cut_notice =
     codes "<p id=\"cut\" role=\"status\" hidden>This page has no end. What wrote it was stopped, or the file was cut, or the page is still loading: it tells nothing of the rest of the sessions.</p>\n</header>\n"
 
--- the front of a page under rules, up to what it says of them and its verdict: the title, the style, both logs by their names, the identifiers, and the links
-abbrev pub front : TitleValue → List RuleValue → ℕ → List ℕ
-front title rules count =
-    page_start ++ codes "<title>" ++ name_text title.left ++ codes " and " ++ name_text title.right ++ codes " - udsnorm report</title>\n<style>\n" ++ title.style
+-- the front of a page under rules, up to what it says of them and its verdict: the title, the style, both logs by their
+-- names, the identifiers, and the links
+abbrev pub pair_front : TitleValue → List RuleValue → ℕ → List ℕ
+pair_front title rules count =
+    document_front ++ codes "<title>" ++ name_text title.left ++ codes " and " ++ name_text title.right ++ codes " - udsnorm report</title>\n<style>\n" ++ title.style
     ++ rules_style rules ++ codes "</style>\n</head>\n<body>\n<svg class=\"defs\" aria-hidden=\"true\" width=\"0\" height=\"0\">\n" ++ shapes_text
     ++ codes "</svg>\n<div class=\"page wide\">\n<header>\n<p class=\"brand\">udsnorm report</p>\n<h1>" ++ lettered_name A title.left ++ codes "<br>"
-    ++ lettered_name B title.right ++ codes "</h1>\n" ++ identifiers_text title.tester title.unit ++ links count ++ cut_notice
+    ++ lettered_name B title.right ++ codes "</h1>\n" ++ identifiers_text title.tester title.unit ++ links count ++ pair_cut_notice
 
 -- All counts.
 
@@ -76,10 +77,10 @@ counts_section title left right =
 -- the page of two sessions with these rows
 abbrev pub body : TitleValue → Bool → ℕ → List Row → SessionValue → SessionValue → List ℕ
 body title shortest bound rows left right =
-    front title left.rules (length (changes rows)) ++ rules_of_both left right ++ verdict shortest bound rows left right
+    pair_front title left.rules (length (changes rows)) ++ rules_of_both left right ++ verdict shortest bound rows left right
     ++ recordings title.left title.right left right ++ codes "</section>\n<main>\n"
     ++ list_text left right (changes rows) ++ first_text title.left title.right left right rows ++ items_text left right rows
-    ++ counts_section title left right ++ codes "</main>\n" ++ help_text
+    ++ counts_section title left right ++ codes "</main>\n" ++ pair_help_text
 
 -- the page of two sessions: its rows are those of their difference
 abbrev pub page_of : TitleValue → SessionValue → SessionValue → List ℕ
@@ -100,10 +101,10 @@ before_words Memory = []
 -- the page where this log is refused
 abbrev pub refused_page : TitleValue → PairLog → Fault → Option RefusalCause → List ℕ
 refused_page title log why cause =
-    front title [] 0 ++ verdict_head (codes "bad") (codes "&#10005;") ++ letter log
+    pair_front title title.rules 0 ++ uncounted_rules title.rules ++ verdict_front (codes "bad") (codes "&#10005;") ++ letter log
     ++ codes " is refused, so nothing is compared</h2>\n<p><em>" ++ refusal_words why
     ++ codes ".</em>" ++ before_words why ++ codes "</p>\n" ++ cause_line cause
-    ++ codes "</section>\n<main>\n<section id=\"items\">\n<h2>Items</h2>\n<p>Nothing is compared.</p>\n</section>\n</main>\n" ++ help_text
+    ++ codes "</section>\n<main>\n<section id=\"items\">\n<h2>Items</h2>\n<p>Nothing is compared.</p>\n</section>\n</main>\n" ++ pair_help_text
 
 -- a line or the limit refuses the log; no other fault has a page
 abbrev pub has_page : Fault → Bool

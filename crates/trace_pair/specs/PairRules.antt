@@ -1,6 +1,7 @@
 -- The rules that a page of two logs is under, and of how many messages of each log they spoke.
 use Rattle.std.specs.Prelude.{ℕ, List, [], ◌∷◌, ◌++◌, codes, length}
 use Rattle.std.specs.Fmt.{decimal}
+use Rattle.std.specs.List.{flat_map}
 use Rattle.trace_report.specs.RuleWords.{rules_end, rules_start}
 use Rattle.trace_report.specs.Session.{SessionValue}
 use Rattle.trace_text.specs.Counts.{messages_word}
@@ -23,6 +24,15 @@ pair_rules_text [] lefts rights = []
 pair_rules_text (rule ∷ rules) lefts rights =
     rules_start (length (rule ∷ rules)) ++ pair_rule_lines (rule ∷ rules) lefts rights ++ rules_end
 
--- the same of the rules of two sessions, which are those of one configuration
+-- a rule where no message is counted
+abbrev pub uncounted_line : RuleValue → List ℕ
+uncounted_line rule = codes "<li><code>" ++ rule_text rule ++ codes "</code>\n"
+
+-- what is said above the verdict of rules where nothing is compared, so that no message is counted; nothing, where there are none
+abbrev pub uncounted_rules : List RuleValue → List ℕ
+uncounted_rules [] = []
+uncounted_rules (rule ∷ rules) = rules_start (length (rule ∷ rules)) ++ flat_map uncounted_line (rule ∷ rules) ++ rules_end
+
+-- what is said of the counted rules of two sessions, which are those of one configuration
 abbrev pub rules_of_both : SessionValue → SessionValue → List ℕ
 rules_of_both left right = pair_rules_text left.rules left.spoken right.spoken

@@ -1,4 +1,5 @@
--- What was found of both logs: a row for each, with each reason why it isn't clean, how many items it has, and when it was.
+-- What was found of both logs: a row for each, with each reason why it isn't clean, how many items it has, and when it
+-- was.
 use Rattle.std.specs.Prelude.{ℕ, ◌==◌, List, ◌++◌, codes, length, if◌then◌else◌}
 use Rattle.std.specs.Fmt.{decimal}
 use Rattle.trace_log.specs.Summing.{is_clean}
@@ -13,8 +14,8 @@ use Rattle.pair_words.specs.Logs.{lettered_name}
 use Rattle.trace_pair.specs.Sessions.{values_in}
 use Rattle.uds_rules.specs.Rule.{RuleValue}
 
--- what is said in front of the reasons why a recording is not called clean: that it isn't, that its sides look exchanged,
--- or both
+-- what is said in front of the reasons why a recording is not called clean: that it isn't, that its sides look
+-- exchanged, or both
 abbrev pub state_start : Summary → List ℕ
 state_start summary =
     if summary.looks_exchanged

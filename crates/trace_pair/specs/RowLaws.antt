@@ -10,7 +10,7 @@ use Rattle.shown_rows.specs.Changes.{changes}
 use Rattle.shown_rows.specs.Rows.{differs, left_count, right_count, same_row}
 use Rattle.shown_rows.specs.declared.changes.Change.{Change}
 use Rattle.trace_report.specs.Session.{SessionValue}
-use Rattle.trace_report.specs.Verdict.{verdict_head}
+use Rattle.trace_report.specs.Verdict.{verdict_front}
 use Rattle.trace_pair.specs.declared.item_row.RowPlace.{RowPlace}
 use Rattle.pair_words.specs.declared.log.PairLog.{PairLog}
 use Rattle.pair_words.specs.declared.log.PairLog.TheVariants.{A, B}
@@ -60,12 +60,12 @@ heading rows = so_many (length (changes rows)) (codes "difference") ++ codes ": 
 abbrev pub rows_in_change : Change → ℕ
 rows_in_change here = here.count
 
--- The heading of a page says how many items only A has, how many only B has and how many changed, as the rows have them, and
--- below it stands how many are the same. Its differences have together as many rows as it counts.
+-- The heading of a page says how many items only A has, how many only B has and how many changed, as the rows have
+-- them, and below it stands how many are the same. Its differences have together as many rows as it counts.
 abbrev pub HeadingCountsTheRows : Type 0
 HeadingCountsTheRows = (shortest : Bool) (bound : ℕ) (rows : List Row) (left right : SessionValue) → differs rows ≡ true
     → ((behind : List ℕ) × (verdict shortest bound rows left right
-    ≡ verdict_head (codes "warn") (codes "&#8800;") ++ (heading rows ++ (codes "</h2>\n<p>" ++ (same_words (number_of rows Same) ++ behind)))))
+    ≡ verdict_front (codes "warn") (codes "&#8800;") ++ (heading rows ++ (codes "</h2>\n<p>" ++ (same_words (number_of rows Same) ++ behind)))))
     × (sum_by rows_in_change (changes rows) ≡ number_of rows OnlyLeft + number_of rows OnlyRight + number_of rows Changed)
 
 -- The row of an item.
@@ -75,8 +75,8 @@ abbrev pub items_of : PairLog → List ItemValue → List ItemValue → List Ite
 items_of A left right = left
 items_of B left right = right
 
--- One of some rows, behind so many in front of it, with as many items of both logs before it as these have. It has the item
--- of a place of a log.
+-- One of some rows, behind so many in front of it, with as many items of both logs before it as these have. It has the
+-- item of a place of a log.
 pub record IsRowOfItem (log : PairLog) (item : ℕ) (rows front later : List Row) (here : RowPlace) : Type 0 where
   pub row : rows ≡ front ++ (here.kind ∷ later)
   pub before_left : here.left ≡ left_count front

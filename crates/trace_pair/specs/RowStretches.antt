@@ -26,8 +26,8 @@ begun front before all row rows =
 abbrev pub changes_with : Row → ℕ → Row → ℕ
 changes_with front before row = if begins_change front row then before + 1 else before
 
--- The first of these rows in its place. Before it stand: of all changes so many, this row in front of it, and so many items
--- of both logs; so many of the next rows are seen for a change before them.
+-- The first of these rows in its place. Before it stand: of all changes so many, this row in front of it, and so many
+-- items of both logs; so many of the next rows are seen for a change before them.
 abbrev pub placed_row : ℕ → ℕ → Row → ℕ → ℕ → ℕ → Row → List Row → PlacedRow
 placed_row all before front left right still_shown row rows = record {
   place = record { kind = row; left = left; right = right };

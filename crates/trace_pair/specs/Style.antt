@@ -1,4 +1,5 @@
--- The style of pages of two logs (CSS), which stands in `style/pair.css`, with what both pages have from `trace_report`: one for all logs.
+-- The style of pages of two logs (CSS), which stands in `style/pair.css`, with what both pages have from
+-- `trace_report`: one for all logs.
 use Rattle.std.specs.Prelude.{ℕ, List}
 use Rattle.trace_pair.specs.declared.style.TheConstants.{STYLE}
 

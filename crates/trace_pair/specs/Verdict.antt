@@ -1,4 +1,5 @@
--- The verdict of a page of two logs: whether the sessions differ, in how many places and how, and how far that can be known.
+-- The verdict of a page of two logs: whether the sessions differ, in how many places and how, and how far that can be
+-- known.
 use Rattle.std.specs.Prelude.{ℕ, ◌+◌, ◌==◌, Bool, true, false, not, ◌&&◌, ◌||◌, List, [], ◌∷◌, ◌++◌, codes, length, nat_lt, nat_le, if◌then◌else◌}
 use Rattle.std.specs.Fmt.{decimal}
 use Rattle.std.specs.List.{list_any}
@@ -11,7 +12,7 @@ use Rattle.shown_rows.specs.Rows.{count_of, differs}
 use Rattle.shown_rows.specs.declared.changes.Change.{Change}
 use Rattle.trace_report.specs.RuleWords.{rules_word}
 use Rattle.trace_report.specs.Session.{SessionValue}
-use Rattle.trace_report.specs.Verdict.{verdict_head}
+use Rattle.trace_report.specs.Verdict.{verdict_front}
 use Rattle.pair_words.specs.declared.log.PairLog.{PairLog}
 use Rattle.pair_words.specs.declared.log.PairLog.TheVariants.{A, B}
 use Rattle.pair_words.specs.Logs.{has_item, items_before}
@@ -41,13 +42,13 @@ same_words count = if count == 0 then codes "No item is the same." else if count
 -- the heading of sessions that differ, by how many changes and rows of each kind there are
 abbrev pub different_heading : ℕ → ℕ → ℕ → ℕ → ℕ → List ℕ
 different_heading differences same left right changed =
-    verdict_head (codes "warn") (codes "&#8800;") ++ differences_word differences ++ counts_words left right changed
+    verdict_front (codes "warn") (codes "&#8800;") ++ differences_word differences ++ counts_words left right changed
     ++ codes "</h2>\n<p>" ++ same_words same ++ codes " <a href=\"#difference\">" ++ (if differences == 1 then codes "See the difference." else codes "See the first difference.") ++ codes "</a></p>\n"
 
 -- Loss.
 
--- Something is missing of the items of a log that belong to a change; of a log that has none of them, in front of the item
--- before which they would stand.
+-- Something is missing of the items of a log that belong to a change; of a log that has none of them, in front of the
+-- item before which they would stand.
 abbrev pub lossy_by : Bool → SessionValue → ℕ → ℕ → Bool
 lossy_by has session before count =
     if has then nat_lt 0 (losses_from session.rows before count) else nat_lt 0 (losses_in_front session.rows before)
@@ -118,7 +119,7 @@ is_exchange (stray side bytes) = false
 -- the verdict where none of the two sessions has an item
 abbrev pub nothing_verdict : List ℕ
 nothing_verdict =
-    verdict_head (codes "warn") (codes "!") ++ codes "Neither session has an item</h2>\n"
+    verdict_front (codes "warn") (codes "!") ++ codes "Neither session has an item</h2>\n"
     ++ codes "<p>So they can't differ. Below stands what each recording has.</p>\n"
 
 -- how far two sessions are known to be the same, where a log is not clean, by whether each is
@@ -140,15 +141,16 @@ is_beyond_doubt exchanged asked left_clean right_clean = not exchanged && (asked
 abbrev pub under_words : ℕ → List ℕ
 under_words rules = if rules == 0 then [] else codes " under " ++ rules_word rules
 
--- the head of sessions that are the same without a doubt: in green where they are under no rule, and else in a colour and with
--- a sign of its own
+-- the head of sessions that are the same without a doubt: in green where they are under no rule, and else in a colour
+-- and with a sign of its own
 abbrev pub same_head : ℕ → List ℕ
-same_head rules = if rules == 0 then verdict_head (codes "good") (codes "=") else verdict_head (codes "ruled") (codes "&#8776;")
+same_head rules = if rules == 0 then verdict_front (codes "good") (codes "=") else verdict_front (codes "ruled") (codes "&#8776;")
 
--- the start of the heading of sessions that are the same, under so many rules: as that only where they are so without a doubt
+-- the start of the heading of sessions that are the same, under so many rules: as that only where they are so without a
+-- doubt
 abbrev pub same_start : ℕ → Bool → List ℕ
 same_start rules beyond_doubt =
-    (if beyond_doubt then same_head rules else verdict_head (codes "warn") (codes "!")) ++ codes "The two sessions are the same"
+    (if beyond_doubt then same_head rules else verdict_front (codes "warn") (codes "!")) ++ codes "The two sessions are the same"
     ++ under_words rules
 
 -- the heading of sessions that are the same, under so many rules
@@ -157,19 +159,18 @@ same_heading rules exchanged asked left_clean right_clean =
     same_start rules (is_beyond_doubt exchanged asked left_clean right_clean) ++ recorded_words left_clean right_clean
     ++ doubt_words exchanged asked ++ codes "</h2>\n"
 
--- what is compared under so many rules, in front of how many items are the same
-abbrev pub compared_words : ℕ → List ℕ
-compared_words rules = if rules == 0 then [] else codes "Of what the rules leave: "
+-- so many items in front of what is said of each: all, or those that so many rules leave
+abbrev pub each_item : ℕ → ℕ → List ℕ
+each_item rules count =
+    if count == 1 then if rules == 0 then codes "One item" else codes "Of what the rules leave, one item"
+    else (if rules == 0 then codes "Each of the " else codes "Of what the rules leave, each of the ") ++ decimal count ++ codes " items"
 
 -- that so many items are the same, under so many rules
 abbrev pub same_items : ℕ → ℕ → List ℕ
-same_items rules count =
-    codes "<p>" ++ compared_words rules
-    ++ (if count == 1 then codes "One item is equal in both, byte for byte.</p>\n"
-    else codes "Each of the " ++ decimal count ++ codes " items is equal in both, byte for byte.</p>\n")
+same_items rules count = codes "<p>" ++ each_item rules count ++ codes " is equal in both, byte for byte.</p>\n"
 
--- the verdict of two sessions that are the same, under so many rules: its heading, how many items they have, and the size of
--- the page
+-- the verdict of two sessions that are the same, under so many rules: its heading, how many items they have, and the
+-- size of the page
 abbrev pub same_verdict : ℕ → Bool → Bool → Bool → Bool → ℕ → List ℕ
 same_verdict rules exchanged asked left_clean right_clean count =
     same_heading rules exchanged asked left_clean right_clean ++ same_items rules count ++ size_line count

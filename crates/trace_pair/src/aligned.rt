@@ -1,4 +1,5 @@
 //! Two sessions that are kept, side by side.
+
 ghost use Rattle.std.specs.Prelude.{◌≡◌, ◌≢◌, ◌+◌, ◌⊎◌, [], IfErr, IfOk, length};
 ghost use Rattle.uds_difference.specs.Bound.{bound_for};
 ghost use Rattle.uds_difference.specs.Rows.{is_shortest, rows_of};

@@ -1,4 +1,5 @@
 //! Two logs, read and set side by side.
+
 ghost use Rattle.std.specs.Prelude.{◌≡◌, ◌≢◌, ◌-◌, ℕ, List, Err, IfErr};
 ghost use Rattle.isotp_receive.specs.declared.TheConstants.{MESSAGE_LIMIT};
 ghost use Rattle.trace_canon.specs.Compared.{fault_in};
@@ -18,7 +19,8 @@ use trace_report::laws::items_are_the_meaning;
 use trace_report::{KeptSessions, keep_two};
 
 /// Reads two logs, the first one whole before the second, and sets side by side what both say. No announcement and no
-/// canonical log is too long for it. Memory that is refused for that, of two logs that can be read, is told of the second.
+/// canonical log is too long for it. Memory that is refused for that, of two logs that can be read, is told of the
+/// second.
 pub fn align_two<'a, A: Source, B: Source>(
     alloc: Global,
     config: &'a Config,

@@ -42,7 +42,7 @@ impl<'a> Part for TopIf<'a> {
                 out,
                 (
                     "<p class=\"top\"><span>",
-                    ChangeWords {
+                    ChangeTitle {
                         rules,
                         kind,
                         count: begun.count,
@@ -63,7 +63,7 @@ impl<'a> Part for TopIf<'a> {
 
 /// What a change is.
 #[derive(Clone, Copy)]
-struct ChangeWords<'a> {
+struct ChangeTitle<'a> {
     rules: &'a Rules,
     kind: Row,
     count: usize,
@@ -71,15 +71,15 @@ struct ChangeWords<'a> {
     other: Option<PlacedItem<'a>>,
 }
 
-impl<'a> Part for ChangeWords<'a> {
+impl<'a> Part for ChangeTitle<'a> {
     ghost use Rattle.std.specs.Prelude.{option_map};
     ghost use Rattle.trace_report.specs.Items.{item_of};
     ghost use Rattle.trace_pair.specs.ItemRows.{change_words};
 
-    ghost text = { λ words. change_words words.rules.now words.kind words.count (option_map item_of words.one) (option_map item_of words.other) };
+    ghost text = { λ title. change_words title.rules.now title.kind title.count (option_map item_of title.one) (option_map item_of title.other) };
 
     fn say<S: TextSink>(self, out: &mut S) {
-        let ChangeWords {
+        let ChangeTitle {
             rules,
             kind,
             count,
@@ -96,26 +96,26 @@ impl<'a> Part for ChangeWords<'a> {
                     DifferWords(rules, item_of(one), item_of(other)),
                 ),
             ),
-            (None, _) | (Some(_), None) => say(out, AloneWords { kind, count }),
+            (None, _) | (Some(_), None) => say(out, AloneTitle { kind, count }),
         }
     }
 }
 
 /// So many items that stand alone.
 #[derive(Clone, Copy)]
-struct AloneWords {
+struct AloneTitle {
     kind: Row,
     count: usize,
 }
 
-impl Part for AloneWords {
+impl Part for AloneTitle {
     ghost use Rattle.std.specs.Prelude.{[], None};
     ghost use Rattle.trace_pair.specs.ItemRows.{change_words};
 
-    ghost text = { λ words. change_words [] words.kind words.count None None };
+    ghost text = { λ title. change_words [] title.kind title.count None None };
 
     fn say<S: TextSink>(self, out: &mut S) {
-        let AloneWords { kind, count } = self;
+        let AloneTitle { kind, count } = self;
         say(
             out,
             (

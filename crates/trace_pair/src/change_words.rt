@@ -1,4 +1,5 @@
 //! The changes of two sessions, in a list.
+
 ghost use Rattle.std.specs.Prelude.{◌+◌, ◌<◌, ◌≤◌, ◌^◌};
 ghost use Rattle.trace_pair.specs.ChangeWords.{IsSmall, change_line, items_range, run_words, what_text, where_link, where_text};
 ghost use Rattle.trace_pair.specs.Verdict.{is_lossy as is_lossy_by};
@@ -74,7 +75,7 @@ pub(crate) struct Tag(pub Row);
 impl Part for Tag {
     ghost use Rattle.trace_pair.specs.ChangeWords.{tag};
 
-    ghost text = { λ t. tag t.0 };
+    ghost text = { λ kind. tag kind.0 };
 
     fn say<S: TextSink>(self, out: &mut S) {
         match self.0 {
@@ -170,7 +171,7 @@ impl<'a> Part for ChangedItems<'a> {
     ghost use Rattle.uds_exchange.specs.ItemSeen.{item_value};
     ghost use Rattle.trace_pair.specs.ChangeWords.{pair_words};
 
-    ghost text = { λ t. pair_words t.0.now (option_map item_value t.1) (option_map item_value t.2) };
+    ghost text = { λ items. pair_words items.0.now (option_map item_value items.1) (option_map item_value items.2) };
 
     fn say<S: TextSink>(self, out: &mut S) {
         let ChangedItems(rules, one, other) = self;
@@ -220,7 +221,7 @@ impl<'a> Part for TitleIf<'a> {
     ghost use Rattle.uds_exchange.specs.ItemSeen.{item_value};
     ghost use Rattle.trace_pair.specs.ItemWords.{item_title};
 
-    ghost text = { λ t. text_if_some (item_title t.0.now) (option_map item_value t.1) };
+    ghost text = { λ title. text_if_some (item_title title.0.now) (option_map item_value title.1) };
 
     fn say<S: TextSink>(self, out: &mut S) {
         let TitleIf(rules, item) = self;
@@ -240,7 +241,7 @@ impl<'a> Part for OutcomeIf<'a> {
     ghost use Rattle.uds_exchange.specs.ItemSeen.{item_value};
     ghost use Rattle.trace_pair.specs.ItemWords.{outcome_note};
 
-    ghost text = { λ t. text_if_some outcome_note (option_map item_value t.0) };
+    ghost text = { λ outcome. text_if_some outcome_note (option_map item_value outcome.0) };
 
     fn say<S: TextSink>(self, out: &mut S) {
         if let Some(item) = self.0 {

@@ -1,35 +1,37 @@
 //! A chart of one log: the rows around an item, with a mark at each byte that differs.
-ghost use Rattle.std.specs.Prelude.{◌≡◌, ◌+◌, ◌-◌, ◌<◌, ◌^◌, None, drop, false, max, nat_le, option_map, slice_get, take};
+
+ghost use Rattle.std.specs.Prelude.{◌≡◌, ◌+◌, ◌-◌, ◌<◌, ◌^◌, None, drop, false, max, option_map, take};
 ghost use Rattle.shown_rows.specs.Rows.{changes_within};
 ghost use Rattle.trace_report.specs.Blocks.{begins_exchange as asks};
-ghost use Rattle.trace_report.specs.Items.{rows_before};
 ghost use Rattle.trace_report.specs.Rows.{missing_of, row_of};
 ghost use Rattle.trace_pair.specs.FirstDifference as Spec;
 ghost use Rattle.trace_pair.specs.proving.Marks.{charted_of, marked_of};
 
+use crate::chart_bytes::ChartData;
+use crate::chart_rows::{chart_from, chart_to, items_left};
 use crate::counterparts::{Charted, Marked, counterpart, found_item};
-use crate::losses::first_row;
-use crate::pair_bytes::are_masked;
 use crate::parted_roles::PartedRoleWords;
 use crate::widths::SessionClasses;
-use byte_columns::ByteColumns;
-use pair_words::{
-    BodyStart, ChartEnd, ItemsEnd, PairChartHead, PairLog, ShownLogs, have_word, say_columns,
-};
-use shown_bytes::{Data, known_length};
+use pair_words::{BodyStart, ChartEnd, ItemsEnd, PairChartHead, PairLog};
+use shown_bytes::known_length;
 use text_parts::say;
 use trace_io::TextSink;
 use trace_report::{
-    Arrow, CellEnd, CellFront, KeptRows, KeptSession, MessageFront, Missing, Note, SentMessage,
-    SessionRow, begins_exchange, begins_item, say_missing_row,
+    KeptRows, KeptSession, MessageRow, Missing, SessionRow, begins_exchange, begins_item,
+    say_missing_row,
 };
 use uds_rules::Rules;
 
 /// A chart has so many rows at most.
 const MOST_ROWS: usize = 40;
 
-/// And of these so many at most before the row with which the item begins.
-const MOST_BEFORE: usize = 8;
+/// What the rows of a chart are said by: rules, the log, and the time of its first frame.
+#[derive(Clone, Copy)]
+struct RowSetting<'a> {
+    rules: &'a Rules,
+    log: PairLog,
+    origin: u64,
+}
 
 /// Which rows of a log its chart has: around the item of a place, counted from 0, from one place up to another.
 #[derive(Clone, Copy)]
@@ -71,67 +73,6 @@ pub(crate) fn say_chart<S: TextSink>(
     say(out, "</table>\n");
 }
 
-/// Where the rows of a chart around an item begin: with the last request at or before the item before it, and with what is
-/// lost in front of the log's first item, where that is the item before.
-fn chart_from(rows: &KeptRows, item: usize) -> usize
-    ensures { result ≡ Spec.chart_from item rows.now }
-{
-    let low = rows.rows_before(item).saturating_sub(MOST_BEFORE);
-    let before = first_row(rows, item.saturating_sub(1));
-    let end = before.saturating_add(1).min(rows.len());
-    let mut from = low;
-    'rows: for at in low..end {
-        if asks_at(rows, at) {
-            from = at;
-        }
-    }
-    from
-}
-
-/// Where the rows of a chart around an item end: before the first request at or behind the second item behind it.
-fn chart_to(rows: &KeptRows, item: usize) -> usize
-    ensures { result ≡ Spec.chart_to item rows.now }
-{
-    let second = rows.rows_before(item.saturating_add(2));
-    'rows: for at in second..rows.len() {
-        if asks_at(rows, at) {
-            return at;
-        }
-    }
-    rows.len()
-}
-
-/// How many of so many items are left, from the first on that begins at or behind a place of the rows.
-fn items_left(rows: &KeptRows, place: usize, item: usize, count: usize) -> usize
-    requires { item + count < 2 ^ 63 }
-    ensures { result ≡ Spec.items_left place item count rows.now }
-{
-    let end = item + count;
-    'items: for at in item..end {
-        if begins_behind(rows, at, place) {
-            return end - at;
-        }
-    }
-    0
-}
-
-/// Whether an item begins at or behind a place of the rows.
-fn begins_behind(rows: &KeptRows, item: usize, place: usize) -> bool
-    ensures { result ≡ nat_le place (rows_before item rows.now) }
-{
-    place <= rows.rows_before(item)
-}
-
-/// Whether an exchange begins with the row at a place, where there is one.
-fn asks_at(rows: &KeptRows, at: usize) -> bool
-    ensures { result ≡ Spec.asks (slice_get rows.now at) }
-{
-    match rows.row(at) {
-        Some(row) => begins_exchange(row),
-        None => false,
-    }
-}
-
 /// Says the rows around an item, in bodies of the table.
 fn say_rows<S: TextSink>(
     chart: Charted<'_>,
@@ -141,7 +82,7 @@ fn say_rows<S: TextSink>(
     out: &mut S,
 )
     requires { changes_within chart.same chart.rows.now ≡ false }
-    ensures { S.says out.old (Spec.rows_text (charted_of chart.entry) origin None (max around.item 1) (take (around.to - around.from) (drop around.from rows.now))) out.new }
+    ensures { S.says out.old (Spec.chart_rows_text (charted_of chart.entry) origin None (max around.item 1) (take (around.to - around.from) (drop around.from rows.now))) out.new }
 {
     let mut front: Option<bool> = None;
     let mut last = around.item.max(1) as u64;
@@ -154,12 +95,16 @@ fn say_rows<S: TextSink>(
         say(
             out,
             BodyStart {
-                begins: begins_body(front, row, other),
+                begins: begins_chart_body(front, row, other),
                 other,
             },
         );
-        let rules = chart.sessions.left.rules();
-        say_row(rules, chart.log, found.marked, origin, row, out);
+        let setting = RowSetting {
+            rules: chart.sessions.left.rules(),
+            log: chart.log,
+            origin,
+        };
+        say_row(setting, found.marked, row, out);
         front = Some(other);
         last = last_begun(last, row);
     }
@@ -204,8 +149,8 @@ fn last_begun(last: u64, row: SessionRow<'_>) -> u64
 }
 
 /// Whether a body of the table begins with a row, behind one whose items are others than in the other log, or not.
-fn begins_body(front: Option<bool>, row: SessionRow<'_>, other: bool) -> bool
-    ensures { result ≡ Spec.begins_body front (asks (row_of row.entry)) other }
+fn begins_chart_body(front: Option<bool>, row: SessionRow<'_>, other: bool) -> bool
+    ensures { result ≡ Spec.begins_chart_body front (asks (row_of row.entry)) other }
 {
     match front {
         Some(before) => begins_exchange(row) || is_another(before, other),
@@ -222,78 +167,31 @@ fn is_another(before: bool, other: bool) -> bool
 
 /// Says a row of a log, to which no link leads, with these marks of its item.
 fn say_row<S: TextSink>(
-    rules: &Rules,
-    log: PairLog,
+    setting: RowSetting<'_>,
     marked: Option<Marked<'_>>,
-    origin: u64,
     row: SessionRow<'_>,
     out: &mut S,
 )
-    ensures { S.says out.old (Spec.chart_row rules.now log (option_map marked_of marked.entry) origin (row_of row.entry)) out.new }
+    ensures { S.says out.old (Spec.chart_row setting.entry.rules.now setting.entry.log (option_map marked_of marked.entry) setting.entry.origin (row_of row.entry)) out.new }
 {
+    let RowSetting { rules, log, origin } = setting;
     match row {
-        SessionRow::Message { sent, message } => {
-            let SentMessage { role, dir, place } = sent;
-            say(
-                out,
-                (
-                    MessageFront {
-                        linked: false,
-                        origin,
-                        role,
-                        place,
-                    },
-                    CellFront(dir),
-                    PartedRoleWords(role, dir, message),
-                ),
-            );
-            say_data(rules, log, message, counterpart(marked, role), out);
-            say(out, Note(role, place, known_length(rules, message)));
-            say(out, CellEnd(dir, Arrow::Headed));
-        }
-        SessionRow::Missing(missing) => say_missing_row(false, origin, missing, out),
-    }
-}
-
-/// Says the bytes of a message that rules have left: beside the one of the other log, where there is one.
-fn say_data<S: TextSink>(
-    rules: &Rules,
-    log: PairLog,
-    message: &[u8],
-    other: Option<&[u8]>,
-    out: &mut S,
-)
-    ensures { S.says out.old (Spec.chart_data rules.now log message.now (option_map (λ bytes. bytes.now) other.entry)) out.new }
-{
-    match other {
-        Some(other) => say_beside(rules, log, message, other, out),
-        None => say(out, Data { rules, message }),
-    }
-}
-
-/// Says the bytes of a message beside the one of the other log, where rules mask neither.
-fn say_beside<S: TextSink>(rules: &Rules, log: PairLog, message: &[u8], other: &[u8], out: &mut S)
-    ensures { S.says out.old (Spec.beside_text rules.now log message.now other.now) out.new }
-{
-    if are_masked(rules, message, other) {
-        say(out, Data { rules, message });
-    } else {
-        let columns = beside_of(log, message, other);
-        say_columns(
-            ShownLogs::Only(log),
-            have_word(message, other),
-            &columns,
+        SessionRow::Message { sent, message } => say(
             out,
-        );
-    }
-}
-
-/// Two messages beside each other, of which the first one is of this log.
-fn beside_of<'a>(log: PairLog, own: &'a [u8], other: &'a [u8]) -> ByteColumns<'a>
-    ensures { result ≡ Spec.beside_of log own.now other.now }
-{
-    match log {
-        PairLog::A => ByteColumns::of(own, other),
-        PairLog::B => ByteColumns::of(other, own),
+            MessageRow {
+                linked: false,
+                origin,
+                sent,
+                words: PartedRoleWords(sent.role, sent.dir, message),
+                bytes: ChartData {
+                    rules,
+                    log,
+                    message,
+                    other: counterpart(marked, sent.role),
+                },
+                count: known_length(rules, message),
+            },
+        ),
+        SessionRow::Missing(missing) => say_missing_row(false, origin, missing, out),
     }
 }

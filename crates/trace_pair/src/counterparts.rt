@@ -1,4 +1,5 @@
 //! Which items of two logs stand beside each other, and which bytes of their messages a chart marks.
+
 ghost use Rattle.std.specs.Prelude.{◌≡◌, ◌<◌, ◌^◌, false, option_map};
 ghost use Rattle.shown_rows.specs.Rows.{changes_within};
 ghost use Rattle.trace_report.specs.Items.{item_of};
@@ -15,8 +16,8 @@ use shown_rows::{is_change, left_in, right_in};
 use trace_report::{KeptSession, MessageRole, PlacedItem, begins_item, is_answer_role};
 use uds_difference::Row;
 
-/// What a chart is of: a log, and both sessions with the rows that set them side by side, of which so many stand before the
-/// first change.
+/// What a chart is of: a log, and both sessions with the rows that set them side by side, of which so many stand before
+/// the first change.
 #[derive(Clone, Copy)]
 pub(crate) struct Charted<'a> {
     pub log: PairLog,
@@ -25,8 +26,8 @@ pub(crate) struct Charted<'a> {
     pub same: usize,
 }
 
-/// What a chart marks of an item: each byte that another message has not, in the message that begins it, in the answer, or
-/// in both.
+/// What a chart marks of an item: each byte that another message has not, in the message that begins it, in the answer,
+/// or in both.
 #[derive(Clone, Copy)]
 pub(crate) struct Marked<'a> {
     pub begin: Option<&'a [u8]>,
@@ -44,7 +45,7 @@ pub(crate) struct FoundItem<'a> {
 pub(crate) fn found_item<'a>(chart: Charted<'a>, number: u64) -> FoundItem<'a>
     requires { changes_within chart.same chart.rows.now ≡ false }
     ensures other { result.is_other ≡ Spec.is_other (charted_of chart.entry) number }
-    ensures marks { option_map marked_of result.marked ≡ Spec.marks_at (charted_of chart.entry) number }
+    ensures marks { option_map marked_of result.marked ≡ Spec.marked_at (charted_of chart.entry) number }
 {
     let row = row_in_chart(chart, number);
     FoundItem {
@@ -67,7 +68,7 @@ fn is_other_in(row: Option<RowPlace>) -> bool
 fn row_in_chart(chart: Charted<'_>, number: u64) -> Option<RowPlace>
     requires { changes_within chart.same chart.rows.now ≡ false }
     ensures other { Spec.is_other_in result ≡ Spec.is_other (charted_of chart.entry) number }
-    ensures marks { Spec.marks_in (charted_of chart.entry) result ≡ Spec.marks_at (charted_of chart.entry) number }
+    ensures marks { Spec.marks_in (charted_of chart.entry) result ≡ Spec.marked_at (charted_of chart.entry) number }
 {
     if number <= chart.same as u64 {
         None
@@ -76,7 +77,8 @@ fn row_in_chart(chart: Charted<'_>, number: u64) -> Option<RowPlace>
     }
 }
 
-/// The row that has the item of a number of a log, counted from 1, if one has it: it stands behind so many that are the same.
+/// The row that has the item of a number of a log, counted from 1, if one has it: it stands behind so many that are the
+/// same.
 fn row_with(log: PairLog, number: u64, rows: &[Row], same: usize) -> Option<RowPlace>
     requires same { changes_within same rows.now ≡ false }
     requires behind { same < number }

@@ -1,4 +1,5 @@
 //! How two items differ, in words.
+
 ghost use Rattle.std.specs.Prelude.{Some};
 ghost use Rattle.trace_pair.specs.ItemWords.{answer_bytes};
 
@@ -25,20 +26,20 @@ impl<'a> Part for DifferWords<'a> {
             (
                 Item::Exchange { request, answer },
                 Item::Exchange {
-                    request: other,
+                    request: asked,
                     answer: reply,
                 },
             ) => {
-                let one = came_of(request, answer);
-                let came = came_of(other, reply);
-                if request == other {
+                let left_outcome = came_of(request, answer);
+                let right_outcome = came_of(asked, reply);
+                if request == asked {
                     say(
                         out,
                         AnswersDiffer {
                             rules,
                             before: "",
-                            one,
-                            other: came,
+                            one: left_outcome,
+                            other: right_outcome,
                             answer,
                             reply,
                         },
@@ -48,12 +49,12 @@ impl<'a> Part for DifferWords<'a> {
                         out,
                         (
                             "request",
-                            ByteWords(rules, request, other),
+                            ByteWords(rules, request, asked),
                             AnswersDiffer {
                                 rules,
                                 before: "; ",
-                                one,
-                                other: came,
+                                one: left_outcome,
+                                other: right_outcome,
                                 answer,
                                 reply,
                             },

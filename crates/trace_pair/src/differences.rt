@@ -1,4 +1,5 @@
 //! The list of the differences.
+
 ghost use Rattle.std.specs.Prelude.{◌≡◌, ◌+◌, ◌<◌, ◌^◌, IfSome, take};
 ghost use Rattle.shown_rows.specs.Changes.{changes};
 ghost use Rattle.trace_pair.specs.ChangeWords.{IsSmall};
@@ -60,8 +61,8 @@ fn say_lines<S: TextSink>(sessions: Sessions<'_>, rows: &[Row], listed: usize, o
     }
 }
 
-/// Says the change that has this number, of so many that are listed, if there is one, and what begins before it. Answers the
-/// number of the next one.
+/// Says the change that has this number, of so many that are listed, if there is one, and what begins before it.
+/// Answers the number of the next one.
 fn say_line_if<S: TextSink>(
     sessions: Sessions<'_>,
     listed: usize,

@@ -1,4 +1,5 @@
 //! The first difference as recorded: both logs around it.
+
 ghost use Rattle.std.specs.Prelude.{◌≡◌, ◌+◌, ◌<◌, ◌^◌, IfSome, false, slice_get};
 ghost use Rattle.shown_rows.specs.Changes.{changes};
 ghost use Rattle.shown_rows.specs.Rows.{changes_within};
@@ -71,6 +72,13 @@ struct First {
     count: usize,
 }
 
+/// Items of a log: so many, from the one of a place on.
+#[derive(Clone, Copy)]
+struct ItemRun {
+    first: usize,
+    count: usize,
+}
+
 /// Says the first change of these rows.
 fn say_change<S: TextSink>(
     names: Names<'_>,
@@ -81,7 +89,7 @@ fn say_change<S: TextSink>(
 )
     requires small { IsSmall first.change }
     requires first { changes_within first.change.left rows.now ≡ false }
-    ensures { S.says out.old (Spec.first_of first.count names.entry.left.now names.entry.right.now sessions.entry.left.now sessions.entry.right.now rows.now first.change) out.new }
+    ensures { S.says out.old (Spec.first_change_text first.count names.entry.left.now names.entry.right.now sessions.entry.left.now sessions.entry.right.now rows.now first.change) out.new }
 {
     let First { change, count } = first;
     say(
@@ -110,44 +118,35 @@ fn say_change<S: TextSink>(
         rows,
         same: change.left,
     };
-    let left_count = own_count(PairLog::A, change);
-    let right_count = own_count(PairLog::B, change);
-    say_side(
-        left,
-        names.left,
-        change.left,
-        left_count,
-        sessions.left,
-        out,
-    );
-    say_side(
-        right,
-        names.right,
-        change.right,
-        right_count,
-        sessions.right,
-        out,
-    );
+    let left_run = ItemRun {
+        first: change.left,
+        count: own_count(PairLog::A, change),
+    };
+    let right_run = ItemRun {
+        first: change.right,
+        count: own_count(PairLog::B, change),
+    };
+    say_side(left, names.left, left_run, sessions.left, out);
+    say_side(right, names.right, right_run, sessions.right, out);
     say(out, "</div>\n</section>\n");
 }
 
-/// Says the change as one log has it, of which so many items are, from the one of a place on.
+/// Says the change as one log has it, to whose items these belong.
 fn say_side<S: TextSink>(
     chart: Charted<'_>,
     name: &[u8],
-    item: usize,
-    count: usize,
+    run: ItemRun,
     session: &KeptSession<'_>,
     out: &mut S,
 )
     requires same { changes_within chart.same chart.rows.now ≡ false }
-    requires small { item + count < 2 ^ 63 }
-    ensures { S.says out.old (Spec.side (charted_of chart.entry) name.now item count session.now) out.new }
+    requires small { run.first + run.count < 2 ^ 63 }
+    ensures { S.says out.old (Spec.side (charted_of chart.entry) name.now run.first run.count session.now) out.new }
 {
     say(
         out,
         ("<section>\n<h3>", LetteredName(chart.log, name), "</h3>\n"),
     );
-    say_chart(chart, item, count, session, out);
+    say_chart(chart, run.first, run.count, session, out);
     say(out, "</section>\n");
 }

@@ -1,4 +1,5 @@
 //! What is folded of the table of items: items that are the same, in one line.
+
 ghost use Rattle.std.specs.Prelude.{◌+◌, ◌<◌, ◌^◌};
 ghost use Rattle.std.specs.List.{flat_map};
 ghost use Rattle.trace_pair.specs.ItemTables as Spec;
@@ -6,10 +7,10 @@ ghost use Rattle.trace_pair.specs.RowStretches.{fold_rows, parts};
 
 use crate::change_words::say_items_range;
 use crate::item_row::{RowPlace, say_item_row};
-use crate::item_tables::TableStart;
 use crate::losses::count_losses;
 use crate::sessions::Sessions;
 use crate::standing::FULL_TABLE;
+use crate::table_parts::TableStart;
 use crate::verdict_words::ItemsWord;
 use pair_words::PairLog;
 use text_parts::{Part, say};
@@ -145,7 +146,7 @@ struct FoldLosses(PairLog, usize);
 impl Part for FoldLosses {
     ghost use Rattle.trace_pair.specs.ItemTables.{fold_losses};
 
-    ghost text = { λ t. fold_losses t.0 t.1 };
+    ghost text = { λ losses. fold_losses losses.0 losses.1 };
 
     fn say<S: TextSink>(self, out: &mut S) {
         if self.1 > 0 {

@@ -1,10 +1,11 @@
 //! The front of a page of two logs.
+
 use crate::title::Title;
 use pair_words::{LetteredName, PairLog};
 use shown_bytes::Name;
 use text_parts::{Either, Part, say};
 use trace_io::TextSink;
-use trace_report::{Identifiers, PageStart, RulesStyle, Shapes};
+use trace_report::{DocumentFront, Identifiers, RulesStyle, Shapes};
 use uds_rules::Rules;
 
 /// What stands before the rules and the verdict of a page under rules, where there are so many differences.
@@ -12,10 +13,10 @@ use uds_rules::Rules;
 pub(crate) struct PairFront<'a>(pub &'a Title<'a>, pub &'a Rules, pub usize);
 
 impl<'a> Part for PairFront<'a> {
-    ghost use Rattle.trace_pair.specs.Page.{front};
+    ghost use Rattle.trace_pair.specs.Page.{pair_front};
     ghost use Rattle.trace_pair.specs.Titles.{title_of};
 
-    ghost text = { λ t. front (title_of t.0.now) t.1.now t.2 };
+    ghost text = { λ page. pair_front (title_of page.0.now) page.1.now page.2 };
 
     fn say<S: TextSink>(self, out: &mut S) {
         let PairFront(title, rules, count) = self;
@@ -23,7 +24,7 @@ impl<'a> Part for PairFront<'a> {
             out,
             (
                 (
-                    PageStart,
+                    DocumentFront,
                     "<title>",
                     Name(title.left),
                     " and ",
@@ -53,9 +54,9 @@ impl<'a> Part for PairFront<'a> {
 struct PairCutNotice;
 
 impl Part for PairCutNotice {
-    ghost use Rattle.trace_pair.specs.Page.{cut_notice};
+    ghost use Rattle.trace_pair.specs.Page.{pair_cut_notice};
 
-    ghost text = { λ notice. cut_notice };
+    ghost text = { λ notice. pair_cut_notice };
 
     fn say<S: TextSink>(self, out: &mut S) {
         say(
@@ -72,7 +73,7 @@ struct PairLinks(usize);
 impl Part for PairLinks {
     ghost use Rattle.trace_pair.specs.Page.{links};
 
-    ghost text = { λ t. links t.0 };
+    ghost text = { λ count. links count.0 };
 
     fn say<S: TextSink>(self, out: &mut S) {
         let one = "<a href=\"#difference\">The difference</a> ";

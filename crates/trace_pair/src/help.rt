@@ -1,4 +1,5 @@
 //! The end of a page of two logs.
+
 use text_parts::{Part, say};
 use trace_io::TextSink;
 use trace_report::{HelpHeading, Legend, Limits, Tail};
@@ -8,23 +9,23 @@ use trace_report::{HelpHeading, Legend, Limits, Tail};
 pub(crate) struct PairHelp;
 
 impl Part for PairHelp {
-    ghost use Rattle.trace_pair.specs.Help.{help_text};
+    ghost use Rattle.trace_pair.specs.Help.{pair_help_text};
 
-    ghost text = { λ help. help_text };
+    ghost text = { λ help. pair_help_text };
 
     fn say<S: TextSink>(self, out: &mut S) {
-        say(out, (PairHelpStart, Legend, Limits, Tail));
+        say(out, (PairHelpFront, Legend, Limits, Tail));
     }
 }
 
 /// What a page of two logs shows.
 #[derive(Clone, Copy)]
-struct PairHelpStart;
+struct PairHelpFront;
 
-impl Part for PairHelpStart {
-    ghost use Rattle.trace_pair.specs.Help.{help_start};
+impl Part for PairHelpFront {
+    ghost use Rattle.trace_pair.specs.Help.{pair_help_front};
 
-    ghost text = { λ start. help_start };
+    ghost text = { λ start. pair_help_front };
 
     fn say<S: TextSink>(self, out: &mut S) {
         say(

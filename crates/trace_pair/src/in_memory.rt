@@ -1,4 +1,5 @@
 //! The page of two logs that lie in memory, gathered there. No device is asked.
+
 ghost use Rattle.std.specs.Prelude.{◌≡◌, Ok, IfOk, MatchResult};
 ghost use Rattle.isotp_receive.specs.declared.TheConstants.{MESSAGE_LIMIT};
 ghost use Rattle.trace_pair.specs.InMemory.{HasNoPairPage, KeepsInMemory, IsPairPageWith, counted_two};
@@ -21,15 +22,16 @@ pub struct CountedPage {
     pub counted: CountedComparison,
 }
 
-/// Why there is no page of two logs: a log can't be read, or memory for what it says was refused; or memory for the page.
+/// Why there is no page of two logs: a log can't be read, or memory for what it says was refused; or memory for the
+/// page.
 #[derive(Clone, Copy, Debug, PartialEq, Eq)]
 pub enum NoPairPage {
     OfLog(CompareFault),
     OfMemory,
 }
 
-/// The page of two logs, as [`write_pair_page`](crate::write_pair_page) writes it with this style and these names, how they
-/// compare, and the counts of each.
+/// The page of two logs, as [`write_pair_page`](crate::write_pair_page) writes it with this style and these names, how
+/// they compare, and the counts of each.
 pub fn pair_page(
     alloc: Global,
     config: &Config,
@@ -47,6 +49,7 @@ pub fn pair_page(
         right: right_name,
         tester: config.tester(),
         unit: config.unit(),
+        rules: config.rules(),
     };
     match keep_both(alloc, config, left, right) {
         Ok(two) => page_of(alloc, &title, two),

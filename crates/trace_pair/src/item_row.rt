@@ -1,20 +1,19 @@
 //! A row of the table of items.
+
 ghost use Rattle.std.specs.Prelude.{◌≡◌, option_map};
 ghost use Rattle.trace_report.specs.Items.{item_of};
 ghost use Rattle.trace_pair.specs.ItemRows as Spec;
 
 use crate::change_top::TopIf;
-use crate::losses::say_losses;
-use crate::pair_bytes::ToldPair;
+use crate::loss_words::say_losses;
+use crate::row_items::{ItemsOfRow, NoteIf};
 use crate::sessions::Sessions;
-use crate::told_items::{NoteOf, ToldItem};
 use pair_words::{DifferenceName, PairLog, has_item};
 use text_parts::{Part, say};
 use trace_io::TextSink;
 use trace_report::{KeptSession, PlacedItem};
 use trace_text::Ordinal;
 use uds_difference::Row;
-use uds_rules::Rules;
 
 /// Where a row stands: what it is, and how many items of both stand before it.
 #[derive(Clone, Copy)]
@@ -116,7 +115,7 @@ struct RowStart(Row, Option<Begun>);
 impl Part for RowStart {
     ghost use Rattle.trace_pair.specs.ItemRows.{begun_number, row_start};
 
-    ghost text = { λ t. row_start t.0 (begun_number t.1) };
+    ghost text = { λ start. row_start start.0 (begun_number start.1) };
 
     fn say<S: TextSink>(self, out: &mut S) {
         say(out, ("<tr class=\"", RowClass(self.0)));
@@ -134,7 +133,7 @@ struct RowClass(Row);
 impl Part for RowClass {
     ghost use Rattle.trace_pair.specs.ItemRows.{row_class};
 
-    ghost text = { λ t. row_class t.0 };
+    ghost text = { λ class. row_class class.0 };
 
     fn say<S: TextSink>(self, out: &mut S) {
         match self.0 {
@@ -153,7 +152,7 @@ struct Numbers(RowPlace);
 impl Part for Numbers {
     ghost use Rattle.trace_pair.specs.ItemRows.{numbers};
 
-    ghost text = { λ t. numbers t.0.kind t.0.left t.0.right };
+    ghost text = { λ row. numbers row.0.kind row.0.left row.0.right };
 
     fn say<S: TextSink>(self, out: &mut S) {
         let RowPlace { kind, left, right } = self.0;
@@ -177,87 +176,13 @@ struct NumberIf(bool, usize);
 impl Part for NumberIf {
     ghost use Rattle.trace_pair.specs.ItemRows.{number_if};
 
-    ghost text = { λ t. number_if t.0 t.1 };
+    ghost text = { λ number. number_if number.0 number.1 };
 
     fn say<S: TextSink>(self, out: &mut S) {
         if self.0 {
             say(out, Ordinal(self.1));
         } else {
             say(out, "<span class=\"none\">&#8211;</span>");
-        }
-    }
-}
-
-/// The items of a row: what both have the same stands once.
-#[derive(Clone, Copy)]
-struct ItemsOfRow<'a>(
-    &'a Rules,
-    Row,
-    Option<PlacedItem<'a>>,
-    Option<PlacedItem<'a>>,
-);
-
-impl<'a> Part for ItemsOfRow<'a> {
-    ghost use Rattle.std.specs.Prelude.{option_map};
-    ghost use Rattle.trace_report.specs.Items.{item_of};
-    ghost use Rattle.trace_pair.specs.ItemRows.{told};
-
-    ghost text = { λ t. told t.0.now t.1 (option_map item_of t.2) (option_map item_of t.3) };
-
-    fn say<S: TextSink>(self, out: &mut S) {
-        let ItemsOfRow(rules, kind, one, other) = self;
-        match kind {
-            Row::Changed => {
-                if let (Some(one), Some(other)) = (one, other) {
-                    say(out, ToldPair(rules, one, other));
-                }
-            }
-            Row::OnlyLeft => say(out, ToldIf(rules, one)),
-            Row::Same | Row::OnlyRight => say(out, ToldIf(rules, other)),
-        }
-    }
-}
-
-/// An item, if there is one.
-#[derive(Clone, Copy)]
-struct ToldIf<'a>(&'a Rules, Option<PlacedItem<'a>>);
-
-impl<'a> Part for ToldIf<'a> {
-    ghost use Rattle.std.specs.Prelude.{option_map};
-    ghost use Rattle.trace_report.specs.Items.{item_of};
-    ghost use Rattle.trace_pair.specs.ItemRows.{told_if};
-
-    ghost text = { λ t. told_if t.0.now (option_map item_of t.1) };
-
-    fn say<S: TextSink>(self, out: &mut S) {
-        let ToldIf(rules, item) = self;
-        if let Some(item) = item {
-            say(out, ToldItem(rules, item));
-        }
-    }
-}
-
-/// When an item was, if there is one.
-#[derive(Clone, Copy)]
-struct NoteIf<'a>(PairLog, u64, Option<PlacedItem<'a>>);
-
-impl<'a> Part for NoteIf<'a> {
-    ghost use Rattle.std.specs.Prelude.{option_map};
-    ghost use Rattle.trace_report.specs.Items.{item_of};
-    ghost use Rattle.trace_pair.specs.ItemRows.{note_if};
-
-    ghost text = { λ t. note_if t.0 t.1 (option_map item_of t.2) };
-
-    fn say<S: TextSink>(self, out: &mut S) {
-        if let Some(item) = self.2 {
-            say(
-                out,
-                NoteOf {
-                    log: self.0,
-                    origin: self.1,
-                    item,
-                },
-            );
         }
     }
 }

@@ -1,28 +1,26 @@
 //! The table of items: each row of both sessions once.
+
 ghost use Rattle.std.specs.Prelude.{◌≡◌, ◌==◌, ◌+◌, ◌<◌, ◌&&◌, not, ◌∷◌, List, codes, length, if◌then◌else◌};
 ghost use Rattle.uds_difference.specs.declared.row.Row.{Row as RowValue};
 ghost use Rattle.uds_difference.specs.declared.row.Row.TheVariants as RowKind;
 ghost use Rattle.shown_rows.specs.Rows.{count_of, differs};
-ghost use Rattle.trace_pair.specs.ItemTables.{items_text, losses_of_no_item, stretches_text};
+ghost use Rattle.trace_pair.specs.ItemTables.{items_text, stretches_text};
 ghost use Rattle.trace_pair.specs.RowStretches.{begun, placed, stretches};
 ghost use Rattle.trace_pair.specs.proving.Standings.{IsRoomy, row_or_fold, seen_text};
 
 use crate::folds::{Fold, say_fold};
 use crate::item_row::{Begun, RowPlace, say_item_row};
-use crate::losses::say_losses;
+use crate::loss_words::say_losses;
 use crate::sessions::Sessions;
 use crate::standing::{Standing, Table};
+use crate::table_parts::{BlockStart, TableEnd, TableStart};
 use crate::widths::ItemsClass;
 use pair_words::PairLog;
 use shown_rows::{change_at, count_changes, count_of, differs, folded, is_shown};
-use text_parts::{Either, Part, When, say};
+use text_parts::{Part, When, say};
 use trace_io::TextSink;
 use trace_report::KeptSession;
-use trace_text::Ordinal;
 use uds_difference::Row;
-
-/// Of the tables that fold, so many are open.
-const OPEN_BLOCKS: usize = 4;
 
 /// Says all items of two sessions with these rows.
 pub(crate) fn say_items<S: TextSink>(sessions: Sessions<'_>, rows: &[Row], out: &mut S)
@@ -38,20 +36,28 @@ pub(crate) fn say_items<S: TextSink>(sessions: Sessions<'_>, rows: &[Row], out: 
                 is_filtered(rows),
                 "<p class=\"filter\"><input type=\"checkbox\" id=\"apart\"> <label for=\"apart\">Show only differences</label></p>\n",
             ),
+            LossesOfNoItem(PairLog::A, sessions.left),
+            LossesOfNoItem(PairLog::B, sessions.right),
         ),
     );
-    say_losses_of_no_item(PairLog::A, sessions.left, out);
-    say_losses_of_no_item(PairLog::B, sessions.right, out);
     say_rows_or_none(sessions, rows, out);
     say(out, "</section>\n");
 }
 
-/// Says what is missing of a log without an item.
-fn say_losses_of_no_item<S: TextSink>(log: PairLog, session: &KeptSession<'_>, out: &mut S)
-    ensures { S.says out.old (losses_of_no_item log session.now) out.new }
-{
-    if session.rows().item_count() == 0 {
-        say_losses(log, session, 0, out);
+/// What is missing of a log without an item.
+#[derive(Clone, Copy)]
+struct LossesOfNoItem<'a>(PairLog, &'a KeptSession<'a>);
+
+impl<'a> Part for LossesOfNoItem<'a> {
+    ghost use Rattle.trace_pair.specs.ItemTables.{losses_of_no_item};
+
+    ghost text = { λ losses. losses_of_no_item losses.0 losses.1.now };
+
+    fn say<S: TextSink>(self, out: &mut S) {
+        let LossesOfNoItem(log, session) = self;
+        if session.rows().item_count() == 0 {
+            say_losses(log, session, 0, out);
+        }
     }
 }
 
@@ -160,7 +166,7 @@ struct TableOpening(Standing);
 impl Part for TableOpening {
     ghost use Rattle.trace_pair.specs.proving.Standings.{opening};
 
-    ghost text = { λ t. opening t.0.table t.0.blocks t.0.left t.0.right };
+    ghost text = { λ before. opening before.0.table before.0.blocks before.0.left before.0.right };
 
     fn say<S: TextSink>(self, out: &mut S) {
         let at = self.0;
@@ -176,78 +182,6 @@ impl Part for TableOpening {
                     say(out, (TableEnd(at.table), start));
                 }
             }
-        }
-    }
-}
-
-/// The start of a table that folds, by how many such stand before it, and by how many items of both.
-#[derive(Clone, Copy)]
-struct BlockStart {
-    blocks: usize,
-    left: usize,
-    right: usize,
-}
-
-impl Part for BlockStart {
-    ghost use Rattle.trace_pair.specs.ItemTables.{block_start};
-
-    ghost text = { λ start. block_start start.blocks start.left start.right };
-
-    fn say<S: TextSink>(self, out: &mut S) {
-        let BlockStart {
-            blocks,
-            left,
-            right,
-        } = self;
-        say(
-            out,
-            (
-                Either(
-                    blocks < OPEN_BLOCKS,
-                    "<details class=\"b\" open>\n<summary>From A&#160;",
-                    "<details class=\"b\">\n<summary>From A&#160;",
-                ),
-                Ordinal(left),
-                ", B&#160;",
-                Ordinal(right),
-                "</summary>\n",
-                TableStart,
-            ),
-        );
-    }
-}
-
-/// The start of a table.
-#[derive(Clone, Copy)]
-pub(crate) struct TableStart;
-
-impl Part for TableStart {
-    ghost use Rattle.trace_pair.specs.ItemTables.{table_start};
-
-    ghost text = { λ start. table_start };
-
-    fn say<S: TextSink>(self, out: &mut S) {
-        say(
-            out,
-            "<table class=\"pair\">\n<thead><tr><th scope=\"col\">A<th scope=\"col\">B<th scope=\"col\">Item</thead>\n<tbody>\n",
-        );
-    }
-}
-
-/// The end of the table that stands.
-#[derive(Clone, Copy)]
-struct TableEnd(Table);
-
-impl Part for TableEnd {
-    ghost use Rattle.trace_pair.specs.proving.Standings.{table_end};
-
-    ghost text = { λ end. table_end end.0 };
-
-    fn say<S: TextSink>(self, out: &mut S) {
-        match self.0 {
-            Table::Closed => {}
-            Table::Open(_) => say(out, "</table>\n"),
-            Table::Block(_) => say(out, "</table>\n</details>\n"),
         }
     }
 }

@@ -1,4 +1,5 @@
 //! Items in the words of a technician.
+
 ghost use Rattle.std.specs.Prelude.{◌≡◌};
 ghost use Rattle.trace_pair.specs.ItemWords as Spec;
 
@@ -24,7 +25,7 @@ impl<'a> Part for ItemTitle<'a> {
     ghost use Rattle.uds_exchange.specs.ItemSeen.{item_value};
     ghost use Rattle.trace_pair.specs.ItemWords.{item_title};
 
-    ghost text = { λ t. item_title t.0.now (item_value t.1) };
+    ghost text = { λ title. item_title title.0.now (item_value title.1) };
 
     fn say<S: TextSink>(self, out: &mut S) {
         let ItemTitle(rules, item) = self;
@@ -74,7 +75,7 @@ struct FirstBytes<'a>(&'a Rules, &'a [u8]);
 impl<'a> Part for FirstBytes<'a> {
     ghost use Rattle.trace_pair.specs.ItemWords.{first_bytes};
 
-    ghost text = { λ t. first_bytes t.0.now t.1.now };
+    ghost text = { λ bytes. first_bytes bytes.0.now bytes.1.now };
 
     fn say<S: TextSink>(self, out: &mut S) {
         let FirstBytes(rules, bytes) = self;
@@ -113,7 +114,7 @@ struct MoreFront(Option<u64>);
 impl Part for MoreFront {
     ghost use Rattle.trace_pair.specs.ItemWords.{more_front};
 
-    ghost text = { λ t. more_front t.0 };
+    ghost text = { λ more. more_front more.0 };
 
     fn say<S: TextSink>(self, out: &mut S) {
         match self.0 {
@@ -131,7 +132,7 @@ impl<'a> Part for OutcomeNote<'a> {
     ghost use Rattle.uds_exchange.specs.ItemSeen.{item_value};
     ghost use Rattle.trace_pair.specs.ItemWords.{outcome_note};
 
-    ghost text = { λ t. outcome_note (item_value t.0) };
+    ghost text = { λ outcome. outcome_note (item_value outcome.0) };
 
     fn say<S: TextSink>(self, out: &mut S) {
         match self.0 {

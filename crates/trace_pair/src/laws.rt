@@ -1,5 +1,6 @@
-//! What holds of a page of two logs, whatever logs it is of. A law is its contract; a call does nothing. A law of a lower
-//! crate that a proof needs is called.
+//! What holds of a page of two logs, whatever logs it is of. A law is its contract; a call does nothing. A law of a
+//! lower crate that a proof needs is called.
+
 ghost use Rattle.trace_pair.specs.Laws.{AgreesWithCompare, ChangesAreOfComparison, ComparisonIsOfItems, StyleHoldsNoTag};
 ghost use Rattle.trace_pair.specs.ChartLaws.{ChartCountsTheRun, ChartHasTheItem};
 ghost use Rattle.trace_pair.specs.LinkLaws.{DifferencesAreTheChanges, LinksHaveTargets, LinksNameIdentifiers, LinksSpellIdentifiers, ListLeadsToTheTable};

@@ -1,4 +1,5 @@
 //! At how many changes of two sessions a log is not clean.
+
 ghost use Rattle.std.specs.Prelude.{◌≡◌, ◌≤◌, ◌<◌, ◌+◌, ◌^◌, ◌||◌, false, length, if◌then◌else◌};
 ghost use Rattle.std.specs.List.{list_any};
 ghost use Rattle.shown_rows.specs.Changes.{changes};

@@ -1,4 +1,5 @@
 //! What came of a request.
+
 ghost use Rattle.std.specs.Prelude.{◌≡◌, option_map};
 ghost use Rattle.trace_pair.specs.ItemWords as Spec;
 
@@ -95,7 +96,7 @@ struct Between(Outcome);
 impl Part for Between {
     ghost use Rattle.trace_pair.specs.ItemWords.{between};
 
-    ghost text = { λ t. between t.0 };
+    ghost text = { λ words. between words.0 };
 
     fn say<S: TextSink>(self, out: &mut S) {
         match self.0 {
@@ -124,7 +125,7 @@ pub(crate) struct OutcomeMark(pub Outcome);
 impl Part for OutcomeMark {
     ghost use Rattle.trace_pair.specs.ItemWords.{outcome_mark};
 
-    ghost text = { λ t. outcome_mark t.0 };
+    ghost text = { λ outcome. outcome_mark outcome.0 };
 
     fn say<S: TextSink>(self, out: &mut S) {
         match self.0 {

@@ -1,4 +1,5 @@
 //! The page of two logs.
+
 ghost use Rattle.std.specs.Prelude.{◌≡◌};
 ghost use Rattle.trace_io.specs.Counted.{IsLowCount};
 ghost use Rattle.trace_run.specs.Printed.{Prints};
@@ -11,7 +12,7 @@ use crate::first::say_first;
 use crate::front::PairFront;
 use crate::help::PairHelp;
 use crate::item_tables::say_items;
-use crate::pair_rules::say_rules;
+use crate::pair_rules::{PairRules, UncountedRules};
 use crate::recordings::say_recordings;
 use crate::sessions::Sessions;
 use crate::title::Title;
@@ -21,9 +22,8 @@ use shown_rows::count_changes;
 use text_parts::{Either, Part, say};
 use trace_io::{Target, TextSink};
 use trace_log::{CompareFault, Fault};
-use trace_report::{CauseLine, Counts, KeptSession, Refusal, RefusalCause, SpanOf, VerdictHead};
+use trace_report::{CauseLine, Counts, KeptSession, Refusal, RefusalCause, SpanOf, VerdictFront};
 use trace_run::print;
-use uds_rules::Rules;
 
 /// Writes the page of what is answered of two logs, where this is the cause of a refusal. Nothing is written where a
 /// device failed or memory was refused.
@@ -60,7 +60,7 @@ impl<'a> Part for PairPage<'a> {
     ghost use Rattle.trace_pair.specs.Page.{pair_page};
     ghost use Rattle.trace_pair.specs.Titles.{title_of};
 
-    ghost text = { λ t. pair_page (title_of t.title.now) t.answer.now t.cause };
+    ghost text = { λ page. pair_page (title_of page.title.now) page.answer.now page.cause };
 
     fn say<S: TextSink>(self, out: &mut S) {
         match self.answer {
@@ -90,9 +90,10 @@ fn say_aligned<S: TextSink>(title: &Title<'_>, aligned: &Aligned<'_>, out: &mut 
     let sessions = aligned.sessions();
     let found = aligned.found();
     let rows = found.rows;
-    let front = PairFront(title, sessions.left.rules(), count_changes(rows));
-    say(out, front);
-    say_rules(sessions, out);
+    let rules = sessions.left.rules();
+    let front = PairFront(title, rules, count_changes(rows));
+    let ruled = PairRules(rules, sessions.left.spoken(), sessions.right.spoken());
+    say(out, (front, ruled));
     say_verdict(found, sessions, out);
     say_recordings(title.left, title.right, sessions, out);
     say(out, "</section>\n<main>\n");
@@ -110,33 +111,43 @@ fn say_both_counts<S: TextSink>(title: &Title<'_>, sessions: Sessions<'_>, out: 
 {
     say(
         out,
-        "<section id=\"counts\">\n<h2>The recordings</h2>\n<div class=\"two\">\n",
-    );
-    say_counts(PairLog::A, title.left, sessions.left, out);
-    say_counts(PairLog::B, title.right, sessions.right, out);
-    say(out, "</div>\n</section>\n");
-}
-
-/// Says all counts of a log.
-fn say_counts<S: TextSink>(log: PairLog, name: &[u8], session: &KeptSession<'_>, out: &mut S)
-    ensures { S.says out.old (Spec.counts_of log name.now session.now) out.new }
-{
-    let summary = session.summary();
-    say(
-        out,
         (
-            "<section>\n<h3>",
-            LetteredName(log, name),
-            "</h3>\n",
-            Counts(&session.rows().counts(), &summary),
-            SpanOf {
-                frames: summary.frames,
-                first: session.first_time(),
-                last: session.last_time(),
-            },
-            "</section>\n",
+            "<section id=\"counts\">\n<h2>The recordings</h2>\n<div class=\"two\">\n",
+            CountsOf(PairLog::A, title.left, sessions.left),
+            CountsOf(PairLog::B, title.right, sessions.right),
+            "</div>\n</section>\n",
         ),
     );
+}
+
+/// All counts of a log, below its name.
+#[derive(Clone, Copy)]
+struct CountsOf<'a>(PairLog, &'a [u8], &'a KeptSession<'a>);
+
+impl<'a> Part for CountsOf<'a> {
+    ghost use Rattle.trace_pair.specs.Page.{counts_of};
+
+    ghost text = { λ counts. counts_of counts.0 counts.1.now counts.2.now };
+
+    fn say<S: TextSink>(self, out: &mut S) {
+        let CountsOf(log, name, session) = self;
+        let summary = session.summary();
+        say(
+            out,
+            (
+                "<section>\n<h3>",
+                LetteredName(log, name),
+                "</h3>\n",
+                Counts(&session.rows().counts(), &summary),
+                SpanOf {
+                    frames: summary.frames,
+                    first: session.first_time(),
+                    last: session.last_time(),
+                },
+                "</section>\n",
+            ),
+        );
+    }
 }
 
 /// Says the page where a log can't be read, if that has one.
@@ -153,8 +164,9 @@ fn say_unread<S: TextSink>(
         say(
             out,
             (
-                PairFront(title, &Rules::none(), 0),
-                VerdictHead("bad", "&#10005;"),
+                PairFront(&*title, &*title.rules, 0),
+                UncountedRules(&*title.rules),
+                VerdictFront("bad", "&#10005;"),
                 log,
                 " is refused, so nothing is compared</h2>\n<p><em>",
                 Refusal(why),

@@ -1,4 +1,5 @@
 //! Two items that changed, one above the other.
+
 ghost use Rattle.std.specs.Prelude.{◌≡◌};
 ghost use Rattle.trace_report.specs.Items.{item_of};
 ghost use Rattle.trace_pair.specs.ItemRows as Spec;
@@ -15,7 +16,8 @@ use trace_io::TextSink;
 use trace_report::{PlacedItem, RowMessage, is_request_role};
 use uds_rules::Rules;
 
-/// Two items that changed: what is the same once, what differs byte under byte, and other outcomes in lines of their own.
+/// Two items that changed: what is the same once, what differs byte under byte, and other outcomes in lines of their
+/// own.
 #[derive(Clone, Copy)]
 pub(crate) struct ToldPair<'a>(pub &'a Rules, pub PlacedItem<'a>, pub PlacedItem<'a>);
 
@@ -23,7 +25,7 @@ impl<'a> Part for ToldPair<'a> {
     ghost use Rattle.trace_report.specs.Items.{item_of};
     ghost use Rattle.trace_pair.specs.ItemRows.{told_pair};
 
-    ghost text = { λ t. told_pair t.0.now (item_of t.1) (item_of t.2) };
+    ghost text = { λ pair. told_pair pair.0.now (item_of pair.1) (item_of pair.2) };
 
     fn say<S: TextSink>(self, out: &mut S) {
         let ToldPair(rules, one, other) = self;
@@ -64,7 +66,7 @@ impl<'a> Part for OfBoth<'a> {
     ghost use Rattle.trace_report.specs.Items.{message_of};
     ghost use Rattle.trace_pair.specs.ItemRows.{message_of_both};
 
-    ghost text = { λ t. message_of_both t.0.now (message_of t.1) (message_of t.2) };
+    ghost text = { λ both. message_of_both both.0.now (message_of both.1) (message_of both.2) };
 
     fn say<S: TextSink>(self, out: &mut S) {
         let OfBoth(rules, one, other) = self;
@@ -83,8 +85,8 @@ impl<'a> Part for OfBoth<'a> {
     }
 }
 
-/// Says two messages that differ: byte under byte, and as text, too, where one of them may be text; but where rules mask one of
-/// them, each in a line of its own.
+/// Says two messages that differ: byte under byte, and as text, too, where one of them may be text; but where rules
+/// mask one of them, each in a line of its own.
 fn say_both_bytes<S: TextSink>(rules: &Rules, one: &[u8], other: &[u8], out: &mut S)
     ensures { S.says out.old (both_bytes rules.now one.now other.now) out.new }
 {
@@ -118,7 +120,7 @@ struct MessageLine<'a>(&'a Rules, PairLog, &'a [u8]);
 impl<'a> Part for MessageLine<'a> {
     ghost use Rattle.trace_pair.specs.ItemRows.{message_line};
 
-    ghost text = { λ t. message_line t.0.now t.1 t.2.now };
+    ghost text = { λ line. message_line line.0.now line.1 line.2.now };
 
     fn say<S: TextSink>(self, out: &mut S) {
         let MessageLine(rules, log, message) = self;
@@ -139,7 +141,7 @@ impl<'a> Part for SameOutcomes<'a> {
     ghost use Rattle.trace_report.specs.Items.{item_of};
     ghost use Rattle.trace_pair.specs.ItemRows.{same_outcomes};
 
-    ghost text = { λ t. same_outcomes t.0.0.now (item_of t.0.1).begin.bytes (item_of t.0.1).answer (item_of t.0.2).answer };
+    ghost text = { λ pair. same_outcomes pair.0.0.now (item_of pair.0.1).begin.bytes (item_of pair.0.1).answer (item_of pair.0.2).answer };
 
     fn say<S: TextSink>(self, out: &mut S) {
         let Answers(rules, one, other) = self.0;
@@ -160,7 +162,7 @@ impl<'a> Part for OtherOutcomes<'a> {
     ghost use Rattle.trace_report.specs.Items.{item_of};
     ghost use Rattle.trace_pair.specs.ItemRows.{other_outcomes};
 
-    ghost text = { λ t. other_outcomes t.0.0.now (item_of t.0.1).begin.bytes (item_of t.0.1).answer (item_of t.0.2).begin.bytes (item_of t.0.2).answer };
+    ghost text = { λ pair. other_outcomes pair.0.0.now (item_of pair.0.1).begin.bytes (item_of pair.0.1).answer (item_of pair.0.2).begin.bytes (item_of pair.0.2).answer };
 
     fn say<S: TextSink>(self, out: &mut S) {
         let Answers(rules, one, other) = self.0;
@@ -184,7 +186,7 @@ impl<'a> Part for OutcomeLine<'a> {
     ghost use Rattle.trace_report.specs.Items.{item_of};
     ghost use Rattle.trace_pair.specs.ItemRows.{outcome_line};
 
-    ghost text = { λ t. outcome_line t.0.now t.1 (item_of t.2).begin.bytes (item_of t.2).answer };
+    ghost text = { λ line. outcome_line line.0.now line.1 (item_of line.2).begin.bytes (item_of line.2).answer };
 
     fn say<S: TextSink>(self, out: &mut S) {
         let OutcomeLine(rules, log, item) = self;
@@ -212,7 +214,7 @@ impl<'a> Part for AnswerData<'a> {
     ghost use Rattle.trace_report.specs.Items.{message_of};
     ghost use Rattle.trace_pair.specs.ItemRows.{answer_data};
 
-    ghost text = { λ t. answer_data t.0.now (option_map message_of t.1) };
+    ghost text = { λ answer. answer_data answer.0.now (option_map message_of answer.1) };
 
     fn say<S: TextSink>(self, out: &mut S) {
         let AnswerData(rules, answer) = self;

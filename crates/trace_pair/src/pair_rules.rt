@@ -1,36 +1,20 @@
 //! The rules that a page of two logs is under, and of how many messages of each log they spoke.
-ghost use Rattle.trace_pair.specs.PairRules as Spec;
 
-use crate::sessions::Sessions;
 use text_parts::{Part, say};
 use trace_io::TextSink;
 use trace_report::{RulesEnd, RulesStart};
 use trace_text::{MessagesWord, Number, RuleText};
 use uds_rules::{Rule, Rules};
 
-/// Says the rules of two sessions, which are those of one configuration, and of how many messages of each they spoke: nothing,
-/// where there are none.
-pub(crate) fn say_rules<S: TextSink>(sessions: Sessions<'_>, out: &mut S)
-    ensures { S.says out.old (Spec.rules_of_both sessions.entry.left.now sessions.entry.right.now) out.new }
-{
-    say(
-        out,
-        PairRules(
-            sessions.left.rules(),
-            sessions.left.spoken(),
-            sessions.right.spoken(),
-        ),
-    );
-}
-
-/// These rules, and of how many messages of each log they spoke.
+/// The rules of two sessions, which are those of one configuration, and of how many messages of each log they spoke:
+/// nothing, where there are none.
 #[derive(Clone, Copy)]
-struct PairRules<'a>(&'a Rules, &'a [u64], &'a [u64]);
+pub(crate) struct PairRules<'a>(pub &'a Rules, pub &'a [u64], pub &'a [u64]);
 
 impl<'a> Part for PairRules<'a> {
     ghost use Rattle.trace_pair.specs.PairRules.{pair_rules_text};
 
-    ghost text = { λ t. pair_rules_text t.0.now t.1.now t.2.now };
+    ghost text = { λ all. pair_rules_text all.0.now all.1.now all.2.now };
 
     fn say<S: TextSink>(self, out: &mut S) {
         let PairRules(rules, left, right) = self;
@@ -55,7 +39,7 @@ struct PairRuleLines<'a>(&'a [Rule], &'a [u64], &'a [u64]);
 impl<'a> Part for PairRuleLines<'a> {
     ghost use Rattle.trace_pair.specs.PairRules.{pair_rule_lines};
 
-    ghost text = { λ t. pair_rule_lines t.0.now t.1.now t.2.now };
+    ghost text = { λ lines. pair_rule_lines lines.0.now lines.1.now lines.2.now };
 
     fn say<S: TextSink>(self, out: &mut S) {
         let PairRuleLines(rules, lefts, rights) = self;
@@ -84,6 +68,47 @@ impl<'a> Part for PairRuleLines<'a> {
             waiting = later;
             left_counts = lefts_behind;
             right_counts = rights_behind;
+        }
+    }
+}
+
+/// These rules where nothing is compared, so that no message is counted: nothing, where there are none.
+#[derive(Clone, Copy)]
+pub(crate) struct UncountedRules<'a>(pub &'a Rules);
+
+impl<'a> Part for UncountedRules<'a> {
+    ghost use Rattle.trace_pair.specs.PairRules.{uncounted_rules};
+
+    ghost text = { λ t. uncounted_rules t.0.now };
+
+    fn say<S: TextSink>(self, out: &mut S) {
+        let rules = self.0.as_slice();
+        if !rules.is_empty() {
+            say(
+                out,
+                (
+                    RulesStart(rules.len() as u64),
+                    UncountedLines(rules),
+                    RulesEnd,
+                ),
+            );
+        }
+    }
+}
+
+/// Each rule in its order.
+#[derive(Clone, Copy)]
+struct UncountedLines<'a>(&'a [Rule]);
+
+impl<'a> Part for UncountedLines<'a> {
+    ghost use Rattle.std.specs.List.{flat_map};
+    ghost use Rattle.trace_pair.specs.PairRules.{uncounted_line};
+
+    ghost text = { λ t. flat_map uncounted_line t.0.now };
+
+    fn say<S: TextSink>(self, out: &mut S) {
+        'rules: for rule in self.0 {
+            say(out, ("<li><code>", RuleText(rule), "</code>\n"));
         }
     }
 }

@@ -1,4 +1,5 @@
 //! What messages are to their items, in words.
+
 use direction::Dir;
 use pair_words::{PartedCode, PartedService};
 use text_parts::{Part, say};

@@ -1,5 +1,6 @@
 //! What was found of both logs.
-ghost use Rattle.trace_pair.specs.Recordings.{recording, recordings};
+
+ghost use Rattle.trace_pair.specs.Recordings.{recordings};
 
 use crate::sessions::Sessions;
 use pair_words::{LetteredName, Moment, PairLog};
@@ -21,35 +22,45 @@ pub(crate) fn say_recordings<S: TextSink>(
 {
     say(
         out,
-        "<table class=\"recs\">\n<thead><tr><th scope=\"col\">Recording<th scope=\"col\">State<th scope=\"col\">Items<th scope=\"col\">First frame<th scope=\"col\">Length</thead>\n<tbody>\n",
-    );
-    say_recording(PairLog::A, left_name, sessions.left, out);
-    say_recording(PairLog::B, right_name, sessions.right, out);
-    say(out, "</table>\n");
-}
-
-/// Says the row of a log.
-fn say_recording<S: TextSink>(log: PairLog, name: &[u8], session: &KeptSession<'_>, out: &mut S)
-    ensures { S.says out.old (recording log name.now session.now) out.new }
-{
-    let summary = session.summary();
-    say(
-        out,
         (
-            "<tr><th scope=\"row\">",
-            LetteredName(log, name),
-            "<td>",
-            State(session.rules(), &summary),
-            "<td>",
-            Number(session.rows().item_count() as u64),
-            RecordingTimes {
-                frames: summary.frames,
-                first: session.first_time(),
-                last: session.last_time(),
-            },
-            "\n",
+            "<table class=\"recs\">\n<thead><tr><th scope=\"col\">Recording<th scope=\"col\">State<th scope=\"col\">Items<th scope=\"col\">First frame<th scope=\"col\">Length</thead>\n<tbody>\n",
+            Recording(PairLog::A, left_name, sessions.left),
+            Recording(PairLog::B, right_name, sessions.right),
+            "</table>\n",
         ),
     );
+}
+
+/// The row of a log, by its name.
+#[derive(Clone, Copy)]
+struct Recording<'a>(PairLog, &'a [u8], &'a KeptSession<'a>);
+
+impl<'a> Part for Recording<'a> {
+    ghost use Rattle.trace_pair.specs.Recordings.{recording};
+
+    ghost text = { λ row. recording row.0 row.1.now row.2.now };
+
+    fn say<S: TextSink>(self, out: &mut S) {
+        let Recording(log, name, session) = self;
+        let summary = session.summary();
+        say(
+            out,
+            (
+                "<tr><th scope=\"row\">",
+                LetteredName(log, name),
+                "<td>",
+                State(session.rules(), &summary),
+                "<td>",
+                Number(session.rows().item_count() as u64),
+                RecordingTimes {
+                    frames: summary.frames,
+                    first: session.first_time(),
+                    last: session.last_time(),
+                },
+                "\n",
+            ),
+        );
+    }
 }
 
 /// Whether a recording is called clean, and each reason why it isn't, by the rules that its messages are under.
@@ -59,7 +70,7 @@ struct State<'a>(&'a Rules, &'a Summary);
 impl<'a> Part for State<'a> {
     ghost use Rattle.trace_pair.specs.Recordings.{state};
 
-    ghost text = { λ t. state t.0.now t.1.now };
+    ghost text = { λ recording. state recording.0.now recording.1.now };
 
     fn say<S: TextSink>(self, out: &mut S) {
         let State(rules, summary) = self;
@@ -106,7 +117,7 @@ struct RecordingTimes {
 impl Part for RecordingTimes {
     ghost use Rattle.trace_pair.specs.Recordings.{times_text};
 
-    ghost text = { λ t. times_text t.frames t.first t.last };
+    ghost text = { λ times. times_text times.frames times.first times.last };
 
     fn say<S: TextSink>(self, out: &mut S) {
         if self.frames == 0 {

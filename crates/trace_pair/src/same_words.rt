@@ -1,10 +1,11 @@
 //! The words of a verdict over two sessions that don't differ.
+
 ghost use Rattle.std.specs.Prelude.{◌≡◌};
 ghost use Rattle.trace_pair.specs.Verdict.{is_beyond_doubt};
 
 use text_parts::{Either, Part, say};
 use trace_io::TextSink;
-use trace_report::{RulesWord, VerdictHead};
+use trace_report::{RulesWord, VerdictFront};
 use trace_text::Number;
 
 /// None of the two has an item.
@@ -20,7 +21,7 @@ impl Part for NothingVerdict {
         say(
             out,
             (
-                VerdictHead("warn", "!"),
+                VerdictFront("warn", "!"),
                 "Neither session has an item</h2>\n",
                 "<p>So they can't differ. Below stands what each recording has.</p>\n",
             ),
@@ -28,8 +29,8 @@ impl Part for NothingVerdict {
     }
 }
 
-/// The heading of sessions that are the same, under so many rules: in green only where they are so without a doubt, and under
-/// none.
+/// The heading of sessions that are the same, under so many rules: in green only where they are so without a doubt, and
+/// under none.
 #[derive(Clone, Copy)]
 pub(crate) struct SameHeading {
     pub rules: u64,
@@ -51,7 +52,7 @@ impl SameHeading {
 impl Part for SameHeading {
     ghost use Rattle.trace_pair.specs.Verdict.{same_heading};
 
-    ghost text = { λ h. same_heading h.rules h.exchanged h.asked h.left_clean h.right_clean };
+    ghost text = { λ heading. same_heading heading.rules heading.exchanged heading.asked heading.left_clean heading.right_clean };
 
     fn say<S: TextSink>(self, out: &mut S) {
         say(
@@ -83,7 +84,7 @@ impl Part for SameStart {
 
     fn say<S: TextSink>(self, out: &mut S) {
         let SameStart(rules, beyond_doubt) = self;
-        let doubt = VerdictHead("warn", "!");
+        let doubt = VerdictFront("warn", "!");
         say(
             out,
             (
@@ -95,8 +96,8 @@ impl Part for SameStart {
     }
 }
 
-/// The head of sessions that are the same without a doubt: in green where they are under no rule, and else in a colour and with a
-/// sign of its own.
+/// The head of sessions that are the same without a doubt: in green where they are under no rule, and else in a colour
+/// and with a sign of its own.
 #[derive(Clone, Copy)]
 struct SameHead(u64);
 
@@ -106,8 +107,8 @@ impl Part for SameHead {
     ghost text = { λ head. same_head head.0 };
 
     fn say<S: TextSink>(self, out: &mut S) {
-        let green = VerdictHead("good", "=");
-        let ruled = VerdictHead("ruled", "&#8776;");
+        let green = VerdictFront("good", "=");
+        let ruled = VerdictFront("ruled", "&#8776;");
         say(out, Either(self.0 == 0, green, ruled));
     }
 }
@@ -186,38 +187,32 @@ impl Part for SameItems {
 
     fn say<S: TextSink>(self, out: &mut S) {
         let SameItems(rules, count) = self;
-        let several = (
-            "Each of the ",
-            Number(count as u64),
-            " items is equal in both, byte for byte.</p>\n",
-        );
+        let each = EachItem(rules, count);
         say(
             out,
-            (
-                "<p>",
-                ComparedWords(rules),
-                Either(
-                    count == 1,
-                    "One item is equal in both, byte for byte.</p>\n",
-                    several,
-                ),
-            ),
+            ("<p>", each, " is equal in both, byte for byte.</p>\n"),
         );
     }
 }
 
-/// What is compared under so many rules, in front of how many items are the same.
+/// So many items in front of what is said of each: all, or those that so many rules leave.
 #[derive(Clone, Copy)]
-struct ComparedWords(u64);
+struct EachItem(u64, usize);
 
-impl Part for ComparedWords {
-    ghost use Rattle.trace_pair.specs.Verdict.{compared_words};
+impl Part for EachItem {
+    ghost use Rattle.trace_pair.specs.Verdict.{each_item};
 
-    ghost text = { λ words. compared_words words.0 };
+    ghost text = { λ items. each_item items.0 items.1 };
 
     fn say<S: TextSink>(self, out: &mut S) {
-        if self.0 > 0 {
-            say(out, "Of what the rules leave: ");
-        }
+        let EachItem(rules, count) = self;
+        let one = Either(rules == 0, "One item", "Of what the rules leave, one item");
+        let each = Either(
+            rules == 0,
+            "Each of the ",
+            "Of what the rules leave, each of the ",
+        );
+        let several = (each, Number(count as u64), " items");
+        say(out, Either(count == 1, one, several));
     }
 }

@@ -1,4 +1,5 @@
 //! Two sessions.
+
 ghost use Rattle.std.specs.Prelude.{◌≡◌, option_map, slice_get};
 ghost use Rattle.uds_exchange.specs.ItemSeen.{item_value};
 ghost use Rattle.trace_report.specs.Items as placed;

@@ -1,4 +1,5 @@
 //! What stands before a row of the table of items.
+
 ghost use Rattle.std.specs.Prelude.{◌≡◌, ◌∷◌, List, length};
 ghost use Rattle.uds_difference.specs.declared.row.Row.{Row as RowValue};
 ghost use Rattle.trace_pair.specs.proving.Standings.{IsRoomy, IsSmall};

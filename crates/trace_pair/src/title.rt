@@ -1,7 +1,9 @@
 //! What a page of two logs is made for.
-use can_log::Id;
 
-/// What a page is made for: its style, the names of the logs, and the identifiers.
+use can_log::Id;
+use uds_rules::Rules;
+
+/// What a page is made for: its style, the names of the logs, the identifiers, and the rules.
 #[derive(Clone, Copy)]
 pub struct Title<'a> {
     pub style: &'a str,
@@ -9,4 +11,5 @@ pub struct Title<'a> {
     pub right: &'a [u8],
     pub tester: Id,
     pub unit: Id,
+    pub rules: &'a Rules,
 }

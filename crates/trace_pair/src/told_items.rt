@@ -1,4 +1,5 @@
 //! Items as rows tell them.
+
 use crate::parted_roles::PartedRoleWords;
 use pair_words::{LetterMark, PairLog};
 use shown_bytes::Data;
@@ -19,7 +20,7 @@ impl<'a> Part for ToldMessage<'a> {
     ghost use Rattle.trace_report.specs.Items.{message_of};
     ghost use Rattle.trace_pair.specs.ToldItems.{told_message};
 
-    ghost text = { λ t. told_message t.0.now (message_of t.1) };
+    ghost text = { λ message. told_message message.0.now (message_of message.1) };
 
     fn say<S: TextSink>(self, out: &mut S) {
         let ToldMessage(
@@ -43,7 +44,7 @@ impl<'a> Part for ToldAnswer<'a> {
     ghost use Rattle.trace_report.specs.Items.{message_of};
     ghost use Rattle.trace_pair.specs.ToldItems.{told_answer};
 
-    ghost text = { λ t. told_answer t.0.now t.1.now (option_map message_of t.2) };
+    ghost text = { λ answer. told_answer answer.0.now answer.1.now (option_map message_of answer.2) };
 
     fn say<S: TextSink>(self, out: &mut S) {
         let ToldAnswer(rules, request, answer) = self;
@@ -61,7 +62,7 @@ struct MissingAnswer(bool);
 impl Part for MissingAnswer {
     ghost use Rattle.trace_pair.specs.ToldItems.{no_answer_text};
 
-    ghost text = { λ t. no_answer_text t.0 };
+    ghost text = { λ missing. no_answer_text missing.0 };
 
     fn say<S: TextSink>(self, out: &mut S) {
         if self.0 {
@@ -80,7 +81,7 @@ impl<'a> Part for ToldItem<'a> {
     ghost use Rattle.trace_report.specs.Items.{item_of};
     ghost use Rattle.trace_pair.specs.ToldItems.{told_item};
 
-    ghost text = { λ t. told_item t.0.now (item_of t.1) };
+    ghost text = { λ item. told_item item.0.now (item_of item.1) };
 
     fn say<S: TextSink>(self, out: &mut S) {
         let ToldItem(rules, item) = self;

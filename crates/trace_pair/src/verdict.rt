@@ -1,4 +1,5 @@
 //! The verdict of a page of two logs.
+
 ghost use Rattle.std.specs.Prelude.{◌≡◌, ◌||◌, slice_get};
 ghost use Rattle.std.specs.List.{list_any};
 ghost use Rattle.trace_pair.specs.Sessions.{values_in};
@@ -18,7 +19,8 @@ use trace_report::KeptSession;
 use uds_difference::Row;
 use uds_exchange::Item;
 
-/// What is found of two sessions: the rows that set them side by side, and whether none that keep equal items are fewer.
+/// What is found of two sessions: the rows that set them side by side, and whether none that keep equal items are
+/// fewer.
 #[derive(Clone, Copy)]
 pub(crate) struct FoundDifference<'a> {
     pub rows: &'a [Row],
@@ -102,7 +104,7 @@ fn has_request(session: &KeptSession<'_>) -> bool
 {
     let count = session.rows().item_count();
     'places: for at in 0..count {
-        if asks_at(session, at) {
+        if is_exchange_at(session, at) {
             return true;
         }
     }
@@ -110,7 +112,7 @@ fn has_request(session: &KeptSession<'_>) -> bool
 }
 
 /// Whether the item of a session at a place is an exchange, if there is one.
-fn asks_at(session: &KeptSession<'_>, at: usize) -> bool
+fn is_exchange_at(session: &KeptSession<'_>, at: usize) -> bool
     ensures { result ≡ asks_if (slice_get (values_in session.now) at) }
 {
     match item_at(session, at) {

@@ -1,9 +1,10 @@
 //! The words of a verdict over two sessions.
+
 ghost use Rattle.std.specs.Prelude.{◌≡◌, ◌==◌, ◌+◌};
 
 use text_parts::{Either, Part, say};
 use trace_io::TextSink;
-use trace_report::VerdictHead;
+use trace_report::VerdictFront;
 use trace_text::Number;
 
 /// A page with more rows is a large one.
@@ -37,14 +38,14 @@ pub(crate) struct DifferentHeading {
 impl Part for DifferentHeading {
     ghost use Rattle.trace_pair.specs.Verdict.{different_heading};
 
-    ghost text = { λ h. different_heading h.differences h.same h.left h.right h.changed };
+    ghost text = { λ heading. different_heading heading.differences heading.same heading.left heading.right heading.changed };
 
     fn say<S: TextSink>(self, out: &mut S) {
         let several = (Number(self.differences), " differences: ");
         say(
             out,
             (
-                VerdictHead("warn", "&#8800;"),
+                VerdictFront("warn", "&#8800;"),
                 Either(self.differences == 1, "1 difference: ", several),
                 CountsWords {
                     left: self.left,
@@ -76,7 +77,7 @@ struct CountsWords {
 impl Part for CountsWords {
     ghost use Rattle.trace_pair.specs.Verdict.{counts_words};
 
-    ghost text = { λ c. counts_words c.left c.right c.changed };
+    ghost text = { λ counts. counts_words counts.left counts.right counts.changed };
 
     fn say<S: TextSink>(self, out: &mut S) {
         let CountsWords {

@@ -1,4 +1,5 @@
 //! How wide the columns of numbers are.
+
 ghost use Rattle.std.specs.Prelude.{◌≡◌};
 ghost use Rattle.trace_pair.specs.Widths as Spec;
 

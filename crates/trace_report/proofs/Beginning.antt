@@ -1,5 +1,6 @@
 -- Where items begin among rows, with one row more.
-use Rattle.std.proofs.Common.{◌≡◌, ℕ, ◌+◌, ◌-◌, suc, zero, Bool, true, false, List, [], ◌∷◌, ◌++◌, length, map, Option, Some, None, refl, ap, sym, ◌∙◌, arith, append-nil}
+use Rattle.std.proofs.Common.{◌≡◌, ℕ, ◌+◌, ◌-◌, suc, zero, Bool, true, false, List, [], ◌∷◌, ◌++◌, length}
+use Rattle.std.proofs.Common.{map, Option, Some, None, refl, ap, sym, ◌∙◌, arith, append-nil}
 use Rattle.std.specs.Prelude.{◌==◌, slice_get, if◌then◌else◌}
 use Rattle.std.proofs.lemmas.Bool.{ne_eqb}
 use Rattle.std.proofs.lemmas.List.{map-append}
@@ -42,7 +43,7 @@ begun-next (message (role.Negative asked) d place bytes) places waiting at = ans
 begun-next (message (role.Pending asked) d place bytes) places waiting at = sym (append-nil (map begin_of places))
 begun-next (message role.KeepAlive d place bytes) places waiting at = begun-so places at
 begun-next (message role.Stray d place bytes) places waiting at = begun-so places at
-begun-next (no_answer number silent) places waiting at = sym (append-nil (map begin_of places))
+begun-next (no_answer number silence) places waiting at = sym (append-nil (map begin_of places))
 begun-next (dropped place d linked why) places waiting at = sym (append-nil (map begin_of places))
 begun-next (ended place end) places waiting at = sym (append-nil (map begin_of places))
 begun-next (unfinished d line len) places waiting at = sym (append-nil (map begin_of places))

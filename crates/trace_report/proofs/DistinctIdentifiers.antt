@@ -1,5 +1,6 @@
 -- The identifiers of a page: each stands once, and each link of the verdict leads to one.
-use Rattle.std.proofs.Common.{eq-eqb, eqb-true, ◌≡◌, ◌≤◌, ◌<◌, ◌^◌, ℕ, ◌+◌, Bool, true, List, [], ◌∷◌, length, map, Some, IfSome, arith, refl, ap, sym, subst, ◌∙◌, inl, inr}
+use Rattle.std.proofs.Common.{eq-eqb, eqb-true, ◌≡◌, ◌≤◌, ◌<◌, ◌^◌, ℕ, ◌+◌, Bool, true, List, [], ◌∷◌}
+use Rattle.std.proofs.Common.{length, map, Some, IfSome, arith, refl, ap, sym, subst, ◌∙◌, inl, inr}
 use Rattle.std.specs.Prelude.{⊤, ◌≢◌, ◌==◌, not, ◌&&◌, bytes_eq, slice_index_or, take}
 use Rattle.std.specs.List.{AllByRecursion, list_all}
 use Rattle.std.proofs.lemmas.Bool.{and_parts, cases_Bool}
@@ -155,7 +156,7 @@ identifiers_stand_once settings meanings few =
 abbrev sorts : List Sort
 sorts =
     sort.Requests ∷ sort.Positives ∷ sort.Negatives ∷ sort.Pendings ∷ sort.KeepAlives ∷ sort.Strays ∷ sort.Unanswered ∷ sort.Silent
-    ∷ sort.Dropped ∷ sort.Ended ∷ sort.Unfinished ∷ []
+    ∷ sort.Dropped ∷ sort.Ended ∷ sort.Unfinished ∷ sort.ToAllUnits ∷ []
 
 abbrev sort_at : ℕ → Sort
 sort_at number = slice_index_or sorts number sort.Unfinished
@@ -168,6 +169,7 @@ ranked sort.Pendings = refl
 ranked sort.KeepAlives = refl
 ranked sort.Strays = refl
 ranked sort.Unanswered = refl
+ranked sort.ToAllUnits = refl
 ranked sort.Silent = refl
 ranked sort.Dropped = refl
 ranked sort.Ended = refl

@@ -1,5 +1,7 @@
 -- How many consecutive frames the receptions took that stand, after one more frame.
-use Rattle.std.proofs.Common.{◌≡◌, ℕ, ◌+◌, ◌<◌, ◌≤◌, ◌^◌, ◌==◌, true, ap, List, [], ◌∷◌, ◌++◌, length, Option, Some, None, Result, Ok, Err, IfSome, refl, sym, subst, ◌∙◌, nat_le, inl, inr, suc, arith, zero-le, option_map}
+use Rattle.std.proofs.Common.{◌≡◌, ℕ, ◌+◌, ◌<◌, ◌≤◌, ◌^◌, ◌==◌, true, List, [], ◌∷◌, ◌++◌, length}
+use Rattle.std.proofs.Common.{Option, Some, None, Result, Ok, Err, IfSome, option_map, nat_le, inl, inr}
+use Rattle.std.proofs.Common.{refl, ap, sym, subst, ◌∙◌, arith}
 use Rattle.std.proofs.lemmas.Bool.{cases_Bool}
 use Rattle.can_log.specs.Frame.{FrameValue}
 use Rattle.direction.specs.Dir.{other_direction}
@@ -8,17 +10,19 @@ use Rattle.direction.specs.declared.Dir.TheVariants.{Tester, Unit}
 use Rattle.isotp_pdu.specs.Layout.{Layout}
 use Rattle.isotp_pdu.specs.Layout as layout
 use Rattle.isotp_pdu.specs.Reading.{layout_of}
-use Rattle.isotp_pdu.specs.declared.PduFault.{PduFault}
 use Rattle.isotp_pdu.specs.declared.Status.{Status}
 use Rattle.isotp_pdu.specs.declared.Status.TheVariants.{Continue, Wait, Overflow}
 use Rattle.isotp_receive.specs.declared.TheConstants.{MESSAGE_LIMIT}
+use Rattle.isotp_receive.specs.Channels.{channel_of, to_one}
+use Rattle.isotp_receive.specs.declared.channel.Channel.{Channel}
+use Rattle.isotp_receive.specs.declared.channel.Channel.TheVariants as on
+use Rattle.isotp_receive.specs.declared.event.Reason.{Reason}
 use Rattle.isotp_receive.specs.Fit.{Fit, late, wrong_number, wrong_length, one_more as one_more_fits, last}
-use Rattle.isotp_receive.specs.Places.{consecutive_by, consecutive_frames_in}
 use Rattle.isotp_receive.specs.proving.Machine.{after, continued_by}
-use Rattle.isotp_receive.specs.StandingReception.{StandingReception, fit_of, is_open, or_else, since, stands}
+use Rattle.isotp_receive.specs.StandingReception.{StandingReception, fit_of, stands}
 use Rattle.isotp_receive.specs.Trace.{Entry, FrameRole, single, first, consecutive, continue_or_wait, overflow, no_part, role, own_role, other_role}
 use Rattle.isotp_receive.specs.Verdict.{EventValue, VerdictValue, message, on_fit, on_flow_control, on_layout, verdict}
-use Rattle.isotp_receive.proofs.Promises.{one_more, same-self, other-apart}
+use Rattle.isotp_receive.proofs.Promises.{one_more, functional_frames_stand_alone, functional_has_no_part}
 use Rattle.uds_exchange.specs.Judging.{one_more as one_more_count}
 use Rattle.trace_canon.specs.FirstFrames.{last_start, place_of}
 use Rattle.trace_report.specs.Events.{frames_by}
@@ -26,58 +30,13 @@ use Rattle.trace_canon.specs.declared.reception_starts.FramePlace.{FramePlace}
 use Rattle.trace_report.specs.declared.frames.FrameCounts.{FrameCounts}
 use Rattle.trace_canon.specs.ReceptionStarts.{IsBegunAt, still_begun}
 use Rattle.trace_report.specs.declared.extents.ReceptionExtents.{ReceptionExtents}
-use Rattle.trace_report.specs.proving.Following.{CountFrames, KnowsExtents, IsTaken, counted_by, frames_with, taken_after}
-use Rattle.trace_canon.proofs.Promises.{role_own, role_other}
-
-abbrev entry_at : ℕ → ℕ → Dir → FrameValue → Entry
-entry_at line micros d frame = record { line = line; micros = micros; dir = d; frame = frame }
+use Rattle.trace_report.specs.proving.Following.{CountFrames, KnowsExtents, IsTaken, counted_by, frames_counted, frames_with, taken_after}
+use Rattle.trace_canon.proofs.Promises.{entry_at, role_own, role_other, same_side, verdict_of_side}
+use Rattle.trace_report.proofs.FewFrames.{TookAtMost, stands_few}
 
 -- a count is that of the reception, if one stands
 abbrev Counts : Option StandingReception → ℕ → Type 0
 Counts standing taken = IfSome standing (λ (s : StandingReception). taken ≡ s.taken)
-
--- a reception took this many frames at most
-abbrev TookAtMost : ℕ → Option StandingReception → Type 0
-TookAtMost most standing = IfSome standing (λ (s : StandingReception). s.taken ≤ most)
-
-one_consecutive : (r : FrameRole) → consecutive_by r ≤ 1
-one_consecutive (consecutive sequence_number can_dl bytes) = omega arith
-one_consecutive (single whole) = omega arith
-one_consecutive (first start) = omega arith
-one_consecutive continue_or_wait = omega arith
-one_consecutive overflow = omega arith
-one_consecutive no_part = omega arith
-
-consecutive_few : (d : Dir) (T : List Entry) → consecutive_frames_in d T ≤ length T
-consecutive_few d [] = zero-le
-consecutive_few d (e ∷ rest) = sum (consecutive_by (role d e)) (consecutive_frames_in d rest) (length rest) (one_consecutive (role d e)) (consecutive_few d rest)
-  where
-    sum : (one some all : ℕ) → one ≤ 1 → some ≤ all → one + some ≤ suc all
-    sum one some all is_one is_some = omega arith
-
-weaker : (standing : Option StandingReception) (most : ℕ) → TookAtMost most standing → TookAtMost (suc most) standing
-weaker None most few = tt
-weaker (Some s) most few = omega arith
-
-either : (a b : Option StandingReception) (most : ℕ) → TookAtMost most a → TookAtMost most b → TookAtMost most (or_else a b)
-either (Some s) b most few_a few_b = few_a
-either None b most few_a few_b = few_b
-
-since_few : (d : Dir) (r : FrameRole) (rest : List Entry) → TookAtMost (length rest) (since MESSAGE_LIMIT d r rest)
-since_few d (first start) rest =
-    elim (cases_Bool (is_open MESSAGE_LIMIT d start rest)) [ inl e ↦ rw e (consecutive_few d rest) | inr e ↦ rw e tt ]
-since_few d (single whole) rest = tt
-since_few d (consecutive sequence_number can_dl bytes) rest = tt
-since_few d continue_or_wait rest = tt
-since_few d overflow rest = tt
-since_few d no_part rest = tt
-
--- a reception took no more frames than there are
-stands_few : (d : Dir) (T : List Entry) → TookAtMost (length T) (stands MESSAGE_LIMIT d T)
-stands_few d [] = tt
-stands_few d (e ∷ rest) =
-    weaker (or_else (since MESSAGE_LIMIT d (role d e) rest) (stands MESSAGE_LIMIT d rest)) (length rest)
-    (either (since MESSAGE_LIMIT d (role d e) rest) (stands MESSAGE_LIMIT d rest) (length rest) (since_few d (role d e) rest) (stands_few d rest))
 
 -- flow control counts for no reception of its sender
 flow_counts : (other : Dir) (others : Option StandingReception) (status : Status) (taken : ℕ) → counted_by true (on_flow_control other others status).verdict taken ≡ taken
@@ -101,9 +60,9 @@ module _ (line micros most : ℕ) (few : most < 2 ^ 63) where
   fitting d s sequence_number bytes taken last is low = tt
 
   -- a frame of the direction itself
-  own_next : (d : Dir) (own others : Option StandingReception) (taken : ℕ) (read : Result Layout PduFault) → Counts own taken → TookAtMost most own
+  own_next : (d : Dir) (own others : Option StandingReception) (taken : ℕ) (read : Result Layout Reason) → Counts own taken → TookAtMost most own
       → Counts (after MESSAGE_LIMIT own micros (own_role line micros read)) (counted_by true (on_layout MESSAGE_LIMIT d own others micros read).verdict taken)
-  own_next d own others taken (Err fault) is low = is
+  own_next d own others taken (Err why) is low = is
   own_next d own others taken (Ok (layout.single whole)) is low = tt
   own_next d own others taken (Ok (layout.first len rx_dl bytes)) is low =
       elim (cases_Bool (nat_le len MESSAGE_LIMIT)) [ inl e ↦ rw e refl | inr e ↦ rw e tt ]
@@ -114,9 +73,9 @@ module _ (line micros most : ℕ) (few : most < 2 ^ 63) where
       subst (λ (n : ℕ). Counts own n) (sym (flow_counts (other_direction d) others status taken)) is
 
   -- a frame of the other direction
-  other_next : (others : Option StandingReception) (taken : ℕ) (read : Result Layout PduFault) → Counts others taken
+  other_next : (others : Option StandingReception) (taken : ℕ) (read : Result Layout Reason) → Counts others taken
       → Counts (after MESSAGE_LIMIT others micros (other_role read)) taken
-  other_next others taken (Err fault) is = is
+  other_next others taken (Err why) is = is
   other_next others taken (Ok (layout.single whole)) is = is
   other_next others taken (Ok (layout.first len rx_dl bytes)) is = is
   other_next others taken (Ok (layout.consecutive sequence_number can_dl bytes)) is = is
@@ -129,42 +88,52 @@ module _ (line micros most : ℕ) (few : most < 2 ^ 63) where
       elim (cases_Bool (s.taken == 0)) [ inl e ↦ rw e tt | inr e ↦ rw e is ]
 
 -- what is kept of the sender's direction is right with one more frame
-pub own_taken : (d : Dir) (T : List Entry) (line micros : ℕ) (frame : FrameValue) (taken : ℕ) → length T < 2 ^ 63 → IsTaken d T taken
-    → IsTaken d (T ++ record { line = line; micros = micros; dir = d; frame = frame } ∷ [])
-    (taken_after d d (verdict MESSAGE_LIMIT T (record { line = line; micros = micros; dir = d; frame = frame })).verdict taken)
-unfolding verdict
+own_taken : (d : Dir) (T : List Entry) (line micros : ℕ) (frame : FrameValue) (taken : ℕ) → length T < 2 ^ 63 → IsTaken d T taken
+    → IsTaken d (T ++ entry_at line micros (channel_of d) frame ∷ [])
+    (counted_by true (verdict MESSAGE_LIMIT T (entry_at line micros (channel_of d) frame)).verdict taken)
 own_taken d T line micros frame taken few is =
-    let e : Entry = record { line = line; micros = micros; dir = d; frame = frame } in
-    rw (one_more MESSAGE_LIMIT d T e, role_own d line micros frame, same-self d)
-    (own_next line micros (length T) few d (stands MESSAGE_LIMIT d T) (stands MESSAGE_LIMIT (other_direction d) T) taken (layout_of frame) is (stands_few d T))
+    let c : Channel = channel_of d in
+    let e : Entry = entry_at line micros c frame in
+    rw (one_more MESSAGE_LIMIT c T e, role_own d line micros frame, verdict_of_side d T line micros frame)
+    (own_next line micros (length T) few d (stands MESSAGE_LIMIT c T) (stands MESSAGE_LIMIT (channel_of (other_direction d)) T) taken (to_one (layout_of frame)) is (stands_few c T))
 
 -- and of the other direction
-pub other_taken : (d : Dir) (T : List Entry) (line micros : ℕ) (frame : FrameValue) (taken : ℕ) → length T < 2 ^ 63 → IsTaken (other_direction d) T taken
-    → IsTaken (other_direction d) (T ++ record { line = line; micros = micros; dir = d; frame = frame } ∷ [])
-    (taken_after (other_direction d) d (verdict MESSAGE_LIMIT T (record { line = line; micros = micros; dir = d; frame = frame })).verdict taken)
-other_taken d T line micros frame taken few is =
-    let o : Dir = other_direction d in
-    let e : Entry = record { line = line; micros = micros; dir = d; frame = frame } in
-    rw (one_more MESSAGE_LIMIT o T e, role_other d line micros frame, other-apart d)
-    (other_next line micros (length T) few (stands MESSAGE_LIMIT o T) taken (layout_of frame) is)
+other_taken : (d : Dir) (T : List Entry) (line micros : ℕ) (frame : FrameValue) (taken : ℕ) → IsTaken (other_direction d) T taken
+    → IsTaken (other_direction d) (T ++ entry_at line micros (channel_of d) frame ∷ []) taken
+other_taken d T line micros frame taken is =
+    let o : Channel = channel_of (other_direction d) in
+    let e : Entry = entry_at line micros (channel_of d) frame in
+    rw (one_more MESSAGE_LIMIT o T e, role_other d line micros frame)
+    (other_next line micros 0 (omega arith) (stands MESSAGE_LIMIT o T) taken (to_one (layout_of frame)) is)
 
-taken_by : (d : Dir) (T : List Entry) (line micros : ℕ) (frame : FrameValue) (counts : FrameCounts) → length T < 2 ^ 63 → CountFrames T counts
-    → IsTaken Tester (T ++ entry_at line micros d frame ∷ []) (taken_after Tester d (verdict MESSAGE_LIMIT T (entry_at line micros d frame)).verdict counts.tester)
-    × IsTaken Unit (T ++ entry_at line micros d frame ∷ []) (taken_after Unit d (verdict MESSAGE_LIMIT T (entry_at line micros d frame)).verdict counts.unit)
-taken_by Tester T line micros frame counts few are =
-    (own_taken Tester T line micros frame counts.tester few are.tester, other_taken Tester T line micros frame counts.unit few are.unit)
-taken_by Unit T line micros frame counts few are =
-    (other_taken Unit T line micros frame counts.tester few are.tester, own_taken Unit T line micros frame counts.unit few are.unit)
+-- a frame to all units leaves both
+still_taken : (x : Dir) (T : List Entry) (e : Entry) (taken : ℕ) → e.channel ≡ on.Functional → IsTaken x T taken → IsTaken x (T ++ e ∷ []) taken
+still_taken x T e taken is so =
+    let c : Channel = channel_of x in
+    let same : stands MESSAGE_LIMIT c (T ++ e ∷ []) ≡ stands MESSAGE_LIMIT c T =
+    one_more MESSAGE_LIMIT c T e ∙ ap (after MESSAGE_LIMIT (stands MESSAGE_LIMIT c T) e.micros) (functional_has_no_part x e is) in
+    subst (λ (o : Option StandingReception). Counts o taken) (sym same) so
 
--- so both counts are, of whichever direction the frame is
-pub frames_next : (T : List Entry) (e : Entry) (d : Dir) (did : VerdictValue) → e.dir ≡ d → did ≡ (verdict MESSAGE_LIMIT T e).verdict → length T < 2 ^ 63
-    → (old now : FrameCounts) → CountFrames T old → now.tester ≡ taken_after Tester d did old.tester → now.unit ≡ taken_after Unit d did old.unit
+taken_by : (channel : Channel) (T : List Entry) (line micros : ℕ) (frame : FrameValue) (counts : FrameCounts) → length T < 2 ^ 63 → CountFrames T counts
+    → IsTaken Tester (T ++ entry_at line micros channel frame ∷ []) (taken_after Tester channel (verdict MESSAGE_LIMIT T (entry_at line micros channel frame)).verdict counts.tester)
+    × IsTaken Unit (T ++ entry_at line micros channel frame ∷ []) (taken_after Unit channel (verdict MESSAGE_LIMIT T (entry_at line micros channel frame)).verdict counts.unit)
+taken_by on.Tester T line micros frame counts few are =
+    (own_taken Tester T line micros frame counts.tester few are.tester, other_taken Tester T line micros frame counts.unit are.unit)
+taken_by on.Unit T line micros frame counts few are =
+    (other_taken Unit T line micros frame counts.tester are.tester, own_taken Unit T line micros frame counts.unit few are.unit)
+taken_by on.Functional T line micros frame counts few are =
+    let e : Entry = entry_at line micros on.Functional frame in
+    (still_taken Tester T e counts.tester refl are.tester, still_taken Unit T e counts.unit refl are.unit)
+
+-- so both counts are, of whichever channel the frame is
+pub frames_next : (T : List Entry) (e : Entry) (channel : Channel) (did : VerdictValue) → e.channel ≡ channel → did ≡ (verdict MESSAGE_LIMIT T e).verdict → length T < 2 ^ 63
+    → (old now : FrameCounts) → CountFrames T old → now.tester ≡ taken_after Tester channel did old.tester → now.unit ≡ taken_after Unit channel did old.unit
     → CountFrames (T ++ e ∷ []) now
-frames_next T e d did dir_is is few old now are tester_is unit_is =
-    let both = taken_by e.dir T e.line e.micros e.frame old few are in
+frames_next T e channel did channel_is is few old now are tester_is unit_is =
+    let both = taken_by e.channel T e.line e.micros e.frame old few are in
     record {
-      tester = subst (λ (n : ℕ). IsTaken Tester (T ++ e ∷ []) n) (sym (tester_is ∙ (λ i. taken_after Tester (sym dir_is i) (is i) old.tester))) both.0;
-      unit = subst (λ (n : ℕ). IsTaken Unit (T ++ e ∷ []) n) (sym (unit_is ∙ (λ i. taken_after Unit (sym dir_is i) (is i) old.unit))) both.1;
+      tester = subst (λ (n : ℕ). IsTaken Tester (T ++ e ∷ []) n) (sym (tester_is ∙ (λ i. taken_after Tester (sym channel_is i) (is i) old.tester))) both.0;
+      unit = subst (λ (n : ℕ). IsTaken Unit (T ++ e ∷ []) n) (sym (unit_is ∙ (λ i. taken_after Unit (sym channel_is i) (is i) old.unit))) both.1;
     }
 
 -- as many frames carry a message as are counted
@@ -175,13 +144,13 @@ module _ (line micros most : ℕ) (few : most < 2 ^ 63) (place : FramePlace) whe
   two_higher : (taken kept : ℕ) → kept ≡ taken → taken ≤ most → one_more_count (one_more_count kept) ≡ taken + 2
   two_higher taken kept is low = rw is (omega arith)
 
-  found : (d : Dir) (own others : Option StandingReception) (taken : ℕ) (read : Result Layout PduFault) (whole : List ℕ) → Counts own taken → TookAtMost most own
+  found : (d : Dir) (own others : Option StandingReception) (taken : ℕ) (read : Result Layout Reason) (whole : List ℕ) → Counts own taken → TookAtMost most own
       → (on_layout MESSAGE_LIMIT d own others micros read).verdict ≡ message whole
       → frames_with (still_begun d (on_layout MESSAGE_LIMIT d own others micros read).ended (begun_at own)) taken ≡ frames_by own (own_role line micros read)
   unfolding begun_at
-  found d own others taken (Err fault) whole counts low is = absurd (cc is)
+  found d own others taken (Err why) whole counts low is = absurd (cc is)
   found d None others taken (Ok (layout.single bytes)) whole counts low is = refl
-  found d (Some standing) others taken (Ok (layout.single bytes)) whole counts low is = rw (same-self d) refl
+  found d (Some standing) others taken (Ok (layout.single bytes)) whole counts low is = rw (same_side d) refl
   found d own others taken (Ok (layout.first len rx_dl bytes)) whole counts low is =
       elim (cases_Bool (nat_le len MESSAGE_LIMIT)) [ inl e ↦ absurd (cc (rw e at is)) | inr e ↦ absurd (cc (rw e at is)) ]
   found d None others taken (Ok (layout.consecutive sequence_number can_dl bytes)) whole counts low is = absurd (cc is)
@@ -203,37 +172,52 @@ module _ (line micros most : ℕ) (few : most < 2 ^ 63) (place : FramePlace) whe
   found d own (Some standing) taken (Ok (layout.flow_control Overflow)) whole counts low is =
       elim (cases_Bool (standing.taken == 0)) [ inl e ↦ absurd (cc (rw e at is)) | inr e ↦ absurd (cc (rw e at is)) ]
 
--- of a message that the frame completes
-pub frames_found : (d : Dir) (T : List Entry) (line micros : ℕ) (frame : FrameValue) (begun : Option FramePlace) (taken : ℕ) (whole : List ℕ) → length T < 2 ^ 63
+-- of a message that the frame of a side completes
+frames_found : (d : Dir) (T : List Entry) (line micros : ℕ) (frame : FrameValue) (begun : Option FramePlace) (taken : ℕ) (whole : List ℕ) → length T < 2 ^ 63
     → IsBegunAt MESSAGE_LIMIT d T begun → IsTaken d T taken
-    → (verdict MESSAGE_LIMIT T (record { line = line; micros = micros; dir = d; frame = frame })).verdict ≡ message whole
-    → frames_with (still_begun d (verdict MESSAGE_LIMIT T (record { line = line; micros = micros; dir = d; frame = frame })).ended begun) taken
-    ≡ frames_by (stands MESSAGE_LIMIT d T) (role d (record { line = line; micros = micros; dir = d; frame = frame }))
-unfolding verdict begun_at
+    → (verdict MESSAGE_LIMIT T (entry_at line micros (channel_of d) frame)).verdict ≡ message whole
+    → frames_with (still_begun d (verdict MESSAGE_LIMIT T (entry_at line micros (channel_of d) frame)).ended begun) taken
+    ≡ frames_by (stands MESSAGE_LIMIT (channel_of d) T) (role (channel_of d) (entry_at line micros (channel_of d) frame))
+unfolding begun_at
 frames_found d T line micros frame begun taken whole few is counts completes =
-    let e : Entry = record { line = line; micros = micros; dir = d; frame = frame } in
-    rw (is e, role_own d line micros frame)
-    (found line micros (length T) few (place_of (last_start d e T)) d (stands MESSAGE_LIMIT d T) (stands MESSAGE_LIMIT (other_direction d) T) taken (layout_of frame) whole
-    counts (stands_few d T) completes)
+    let c : Channel = channel_of d in
+    let e : Entry = entry_at line micros c frame in
+    let o : Option StandingReception = stands MESSAGE_LIMIT (channel_of (other_direction d)) T in
+    let told : (on_layout MESSAGE_LIMIT d (stands MESSAGE_LIMIT c T) o micros (to_one (layout_of frame))).verdict ≡ message whole =
+    ap (λ (x : EventValue). x.verdict) (sym (verdict_of_side d T line micros frame)) ∙ completes in
+    rw (is e, role_own d line micros frame, verdict_of_side d T line micros frame)
+    (found line micros (length T) few (place_of (last_start c e T)) d (stands MESSAGE_LIMIT c T) o taken (to_one (layout_of frame)) whole
+    counts (stands_few c T) told)
 
-frames_by_side : (d : Dir) (T : List Entry) (line micros : ℕ) (frame : FrameValue) (extents : ReceptionExtents) (begun : Option FramePlace) (taken : ℕ) (whole : List ℕ)
-    → length T < 2 ^ 63 → KnowsExtents T extents → (d ≡ Tester → begun ≡ extents.begun.tester) → (d ≡ Unit → begun ≡ extents.begun.unit)
-    → (d ≡ Tester → taken ≡ extents.frames.tester) → (d ≡ Unit → taken ≡ extents.frames.unit)
-    → (verdict MESSAGE_LIMIT T (entry_at line micros d frame)).verdict ≡ message whole
-    → frames_with (still_begun d (verdict MESSAGE_LIMIT T (entry_at line micros d frame)).ended begun) taken ≡ frames_by (stands MESSAGE_LIMIT d T) (role d (entry_at line micros d frame))
-frames_by_side Tester T line micros frame extents begun taken whole few known of_tester of_unit taken_tester taken_unit completes =
-    (λ i. frames_with (still_begun Tester (verdict MESSAGE_LIMIT T (entry_at line micros Tester frame)).ended (of_tester refl i)) (taken_tester refl i))
-    ∙ frames_found Tester T line micros frame extents.begun.tester extents.frames.tester whole few (known.begun Tester) known.frames.tester completes
-frames_by_side Unit T line micros frame extents begun taken whole few known of_tester of_unit taken_tester taken_unit completes =
-    (λ i. frames_with (still_begun Unit (verdict MESSAGE_LIMIT T (entry_at line micros Unit frame)).ended (of_unit refl i)) (taken_unit refl i))
-    ∙ frames_found Unit T line micros frame extents.begun.unit extents.frames.unit whole few (known.begun Unit) known.frames.unit completes
+-- one frame carries a message to all units
+none_before : (r : FrameRole) → frames_by None r ≡ 1
+none_before (single whole) = refl
+none_before (first start) = refl
+none_before (consecutive sequence_number can_dl bytes) = refl
+none_before continue_or_wait = refl
+none_before overflow = refl
+none_before no_part = refl
 
--- of either side, by what is known of the extents
-pub frames_known : (T : List Entry) (e : Entry) (d : Dir) (event : EventValue) (extents : ReceptionExtents) (begun : Option FramePlace) (taken : ℕ) (whole : List ℕ)
-    → e.dir ≡ d → event ≡ verdict MESSAGE_LIMIT T e → length T < 2 ^ 63 → KnowsExtents T extents → (d ≡ Tester → begun ≡ extents.begun.tester) → (d ≡ Unit → begun ≡ extents.begun.unit)
-    → (d ≡ Tester → taken ≡ extents.frames.tester) → (d ≡ Unit → taken ≡ extents.frames.unit) → event.verdict ≡ message whole
-    → frames_with (still_begun d event.ended begun) taken ≡ frames_by (stands MESSAGE_LIMIT e.dir T) (role e.dir e)
-frames_known T e d event extents begun taken whole dir_is is few known of_tester of_unit taken_tester taken_unit completes =
-    (λ i. frames_with (still_begun (sym dir_is i) (is i).ended begun) taken)
-    ∙ frames_by_side e.dir T e.line e.micros e.frame extents begun taken whole few known (λ side. of_tester (sym dir_is ∙ side)) (λ side. of_unit (sym dir_is ∙ side))
-    (λ side. taken_tester (sym dir_is ∙ side)) (λ side. taken_unit (sym dir_is ∙ side)) (sym (ap (λ (x : EventValue). x.verdict) is) ∙ completes)
+frames_alone : (T : List Entry) (e : Entry) → e.channel ≡ on.Functional → 1 ≡ frames_by (stands MESSAGE_LIMIT on.Functional T) (role on.Functional e)
+frames_alone T e is =
+    sym (ap (λ (o : Option StandingReception). frames_by o (role on.Functional e)) (functional_frames_stand_alone MESSAGE_LIMIT T e is).none_stands
+    ∙ none_before (role on.Functional e))
+
+frames_on : (channel : Channel) (T : List Entry) (line micros : ℕ) (frame : FrameValue) (extents : ReceptionExtents) (whole : List ℕ)
+    → length T < 2 ^ 63 → KnowsExtents T extents
+    → (verdict MESSAGE_LIMIT T (entry_at line micros channel frame)).verdict ≡ message whole
+    → frames_counted channel (verdict MESSAGE_LIMIT T (entry_at line micros channel frame)).ended extents.begun extents.frames
+    ≡ frames_by (stands MESSAGE_LIMIT channel T) (role channel (entry_at line micros channel frame))
+frames_on on.Tester T line micros frame extents whole few known completes =
+    frames_found Tester T line micros frame extents.begun.tester extents.frames.tester whole few (known.begun Tester) known.frames.tester completes
+frames_on on.Unit T line micros frame extents whole few known completes =
+    frames_found Unit T line micros frame extents.begun.unit extents.frames.unit whole few (known.begun Unit) known.frames.unit completes
+frames_on on.Functional T line micros frame extents whole few known completes = frames_alone T (entry_at line micros on.Functional frame) refl
+
+-- of whichever channel, by what is known of the extents
+pub frames_known : (T : List Entry) (e : Entry) (channel : Channel) (event : EventValue) (extents : ReceptionExtents) (whole : List ℕ)
+    → e.channel ≡ channel → event ≡ verdict MESSAGE_LIMIT T e → length T < 2 ^ 63 → KnowsExtents T extents → event.verdict ≡ message whole
+    → frames_counted channel event.ended extents.begun extents.frames ≡ frames_by (stands MESSAGE_LIMIT e.channel T) (role e.channel e)
+frames_known T e channel event extents whole channel_is is few known completes =
+    (λ i. frames_counted (sym channel_is i) (is i).ended extents.begun extents.frames)
+    ∙ frames_on e.channel T e.line e.micros e.frame extents whole few known (sym (ap (λ (x : EventValue). x.verdict) is) ∙ completes)

@@ -3,7 +3,8 @@ use Rattle.std.proofs.Common.{◌≡◌, ℕ, ◌<◌, suc, Bool, true, false, L
 use Rattle.trace_report.specs.Items.{RowMessageValue, PlacedItemValue, answer_in, items_in}
 use Rattle.trace_report.specs.Rows.{RowValue, message, no_answer, dropped, ended, unfinished}
 use Rattle.trace_report.specs.declared.roles.MessageRole.TheVariants as role
-use Rattle.trace_report.specs.proving.Keeping.{RowPart, asks, answers, begins, nothing, part_of, awaits, place_later, place_by, waiting_of, item_by, items_answered}
+use Rattle.trace_report.specs.proving.Keeping.{RowPart, asks, answers, begins, nothing, part_of, awaits, place_later}
+use Rattle.trace_report.specs.proving.Keeping.{place_by, waiting_of, item_by, items_answered}
 
 -- Items by what rows are to them.
 
@@ -29,7 +30,7 @@ answer-by-parts (message (role.Negative asked) d place bytes ∷ rest) = refl
 answer-by-parts (message (role.Pending asked) d place bytes ∷ rest) = answer-by-parts rest
 answer-by-parts (message role.KeepAlive d place bytes ∷ rest) = answer-by-parts rest
 answer-by-parts (message role.Stray d place bytes ∷ rest) = answer-by-parts rest
-answer-by-parts (no_answer number silent ∷ rest) = answer-by-parts rest
+answer-by-parts (no_answer number silence ∷ rest) = answer-by-parts rest
 answer-by-parts (dropped place d linked why ∷ rest) = answer-by-parts rest
 answer-by-parts (ended place end ∷ rest) = answer-by-parts rest
 answer-by-parts (unfinished d line len ∷ rest) = answer-by-parts rest
@@ -45,7 +46,7 @@ items-by-parts (message role.KeepAlive d place bytes ∷ rest) =
     ap (λ l. item_by (record { role = role.KeepAlive; dir = d; place = place; bytes = bytes }) None ∷ l) (items-by-parts rest)
 items-by-parts (message role.Stray d place bytes ∷ rest) =
     ap (λ l. item_by (record { role = role.Stray; dir = d; place = place; bytes = bytes }) None ∷ l) (items-by-parts rest)
-items-by-parts (no_answer number silent ∷ rest) = items-by-parts rest
+items-by-parts (no_answer number silence ∷ rest) = items-by-parts rest
 items-by-parts (dropped place d linked why ∷ rest) = items-by-parts rest
 items-by-parts (ended place end ∷ rest) = items-by-parts rest
 items-by-parts (unfinished d line len ∷ rest) = items-by-parts rest

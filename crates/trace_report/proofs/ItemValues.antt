@@ -1,5 +1,6 @@
 -- The items that rows tell, by what each row is to them: a request, an answer, a stray, or nothing.
-use Rattle.std.proofs.Common.{◌≡◌, ℕ, Bool, true, false, List, [], ◌∷◌, ◌++◌, Option, Some, None, map, option_map, suc, refl, ap, sym, subst, ◌∙◌, inl, inr, append-nil}
+use Rattle.std.proofs.Common.{◌≡◌, ℕ, Bool, true, false, List, [], ◌∷◌, ◌++◌, Option, Some, None, map}
+use Rattle.std.proofs.Common.{option_map, suc, refl, ap, sym, subst, ◌∙◌, inl, inr, append-nil}
 use Rattle.std.specs.Prelude.{if◌then◌else◌, slice_set}
 use Rattle.std.proofs.lemmas.Bool.{cases_Bool}
 use Rattle.std.proofs.lemmas.Option.{none-some, same_Some}
@@ -34,7 +35,7 @@ kind (message (role.Negative asked) d place bytes) = answers bytes
 kind (message (role.Pending asked) d place bytes) = nothing
 kind (message role.KeepAlive d place bytes) = strays d bytes
 kind (message role.Stray d place bytes) = strays d bytes
-kind (no_answer number silent) = nothing
+kind (no_answer number silence) = nothing
 kind (dropped place d linked why) = nothing
 kind (ended place end) = nothing
 kind (unfinished d line len) = nothing
@@ -65,7 +66,7 @@ answer-by-kinds (message (role.Negative asked) d place bytes ∷ rest) = refl
 answer-by-kinds (message (role.Pending asked) d place bytes ∷ rest) = answer-by-kinds rest
 answer-by-kinds (message role.KeepAlive d place bytes ∷ rest) = answer-by-kinds rest
 answer-by-kinds (message role.Stray d place bytes ∷ rest) = answer-by-kinds rest
-answer-by-kinds (no_answer number silent ∷ rest) = answer-by-kinds rest
+answer-by-kinds (no_answer number silence ∷ rest) = answer-by-kinds rest
 answer-by-kinds (dropped place d linked why ∷ rest) = answer-by-kinds rest
 answer-by-kinds (ended place end ∷ rest) = answer-by-kinds rest
 answer-by-kinds (unfinished d line len ∷ rest) = answer-by-kinds rest
@@ -78,7 +79,7 @@ values-by-kinds (message (role.Negative asked) d place bytes ∷ rest) = values-
 values-by-kinds (message (role.Pending asked) d place bytes ∷ rest) = values-by-kinds rest
 values-by-kinds (message role.KeepAlive d place bytes ∷ rest) = ap (λ l. stray d bytes ∷ l) (values-by-kinds rest)
 values-by-kinds (message role.Stray d place bytes ∷ rest) = ap (λ l. stray d bytes ∷ l) (values-by-kinds rest)
-values-by-kinds (no_answer number silent ∷ rest) = values-by-kinds rest
+values-by-kinds (no_answer number silence ∷ rest) = values-by-kinds rest
 values-by-kinds (dropped place d linked why ∷ rest) = values-by-kinds rest
 values-by-kinds (ended place end ∷ rest) = values-by-kinds rest
 values-by-kinds (unfinished d line len ∷ rest) = values-by-kinds rest

@@ -1,5 +1,6 @@
 -- The rows of a session as they are kept, with one row more.
-use Rattle.std.proofs.Common.{◌≡◌, ℕ, ◌+◌, ◌<◌, ◌^◌, ◌-◌, suc, zero, List, [], ◌∷◌, ◌++◌, length, map, get_or, Option, None, refl, ap, sym, subst, ◌∙◌, arith, append-nil}
+use Rattle.std.proofs.Common.{◌≡◌, ℕ, ◌+◌, ◌<◌, ◌^◌, ◌-◌, suc, zero, List, [], ◌∷◌, ◌++◌, length, map}
+use Rattle.std.proofs.Common.{get_or, Option, None, refl, ap, sym, subst, ◌∙◌, arith, append-nil}
 use Rattle.std.proofs.lemmas.List.{map-append, length-map}
 use Rattle.uds_exchange.specs.Blocks.{GoesOn, Holds, IsInside, block_at, bytes_at}
 use Rattle.uds_exchange.specs.declared.messages.Span.{Span}
@@ -10,7 +11,8 @@ use Rattle.trace_report.specs.declared.tally.SortCounts.{SortCounts}
 use Rattle.trace_report.specs.declared.item_places.ItemPlace.{ItemPlace}
 use Rattle.trace_report.specs.declared.kept_rows.KeptRow.{KeptRow}
 use Rattle.trace_report.specs.declared.kept_rows.KeptRow.TheVariants as kept
-use Rattle.trace_report.specs.proving.Keeping.{row_at, rows_at, IsLaid, AreLaid, AreKept, ArePlaced, begin_of, begin_places, begun_at, places_next, waiting_next}
+use Rattle.trace_report.specs.proving.Keeping.{row_at, rows_at, IsLaid, AreLaid, AreKept, ArePlaced, begin_of}
+use Rattle.trace_report.specs.proving.Keeping.{begin_places, begun_at, places_next, waiting_next}
 use Rattle.trace_report.specs.proving.Tallying.{counts_with}
 use Rattle.trace_report.specs.Items.{items_in}
 use Rattle.trace_report.specs.proving.Keeping.{waiting_in}

@@ -1,6 +1,7 @@
 mod RowTexts
 mod Tallies
 mod Steps
+mod FewFrames
 mod FrameCounting
 mod Meeting
 mod HowKept

@@ -1,5 +1,6 @@
 -- Where items stand among the rows of a session, with one row more.
-use Rattle.std.proofs.Common.{◌≡◌, ℕ, ◌<◌, suc, zero, List, [], ◌∷◌, ◌++◌, length, map, get_or, Option, Some, None, IfSome, option_map, refl, ap, sym, subst, ◌∙◌, arith, append-nil}
+use Rattle.std.proofs.Common.{◌≡◌, ℕ, ◌<◌, suc, zero, List, [], ◌∷◌, ◌++◌, length, map, get_or, Option, Some}
+use Rattle.std.proofs.Common.{None, IfSome, option_map, refl, ap, sym, subst, ◌∙◌, arith, append-nil}
 use Rattle.std.specs.Prelude.{slice_get, slice_set}
 use Rattle.std.proofs.lemmas.List.{map-append}
 use Rattle.std.proofs.lemmas.Option.{none-some, same_Some}
@@ -7,7 +8,10 @@ use Rattle.trace_report.specs.Items.{RowMessageValue, PlacedItemValue, items_in,
 use Rattle.trace_report.specs.Rows.{RowValue, message, no_answer, dropped, ended, unfinished}
 use Rattle.trace_report.specs.declared.item_places.ItemPlace.{ItemPlace}
 use Rattle.trace_report.specs.declared.roles.MessageRole.TheVariants as role
-use Rattle.trace_report.specs.proving.Keeping.{RowPart, asks, answers, begins, nothing, part_of, waiting_of, waiting_in, message_at, item_by, item_with, item_if, placed_at, ArePlaced, answered_at, place_answered, places_answered, item_answered, items_answered, places_begun, places_next, waiting_next}
+use Rattle.trace_report.specs.proving.Keeping.{RowPart, asks, answers, begins, nothing, part_of, waiting_of, waiting_in}
+use Rattle.trace_report.specs.proving.Keeping.{message_at, item_by, item_with, item_if, placed_at, ArePlaced, answered_at}
+use Rattle.trace_report.specs.proving.Keeping.{place_answered, places_answered, item_answered, items_answered}
+use Rattle.trace_report.specs.proving.Keeping.{places_begun, places_next, waiting_next}
 use Rattle.trace_report.proofs.ItemParts.{items_of, items-by-parts, items-behind, waiting-still, waiting-asked, waiting-answered, items-answered, waiting-below}
 
 pub same-count : (rows : List RowValue) (places : List ItemPlace) (items : List PlacedItemValue) → ArePlaced rows places items → length places ≡ length items
@@ -170,7 +174,7 @@ module _ (rows : List RowValue) (places : List ItemPlace) (waiting : Option ℕ)
   row-more (message (role.Pending asked) d place bytes) = nothing-more (message (role.Pending asked) d place bytes) refl
   row-more (message role.KeepAlive d place bytes) = begun-more (message role.KeepAlive d place bytes) (record { role = role.KeepAlive; dir = d; place = place; bytes = bytes }) refl refl
   row-more (message role.Stray d place bytes) = begun-more (message role.Stray d place bytes) (record { role = role.Stray; dir = d; place = place; bytes = bytes }) refl refl
-  row-more (no_answer number silent) = nothing-more (no_answer number silent) refl
+  row-more (no_answer number silence) = nothing-more (no_answer number silence) refl
   row-more (dropped place d linked why) = nothing-more (dropped place d linked why) refl
   row-more (ended place end) = nothing-more (ended place end) refl
   row-more (unfinished d line len) = nothing-more (unfinished d line len) refl

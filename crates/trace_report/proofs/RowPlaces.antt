@@ -26,6 +26,7 @@ led_to sort.Pendings place = None
 led_to sort.KeepAlives place = None
 led_to sort.Strays place = Some place
 led_to sort.Unanswered place = Some place
+led_to sort.ToAllUnits place = None
 led_to sort.Silent place = None
 led_to sort.Dropped place = Some place
 led_to sort.Ended place = Some place

@@ -1,4 +1,5 @@
--- The rows of a report, said in parts: what stands after some of them, and their text, by those before and those behind.
+-- The rows of a report, said in parts: what stands after some of them, and their text, by those before and those
+-- behind.
 use Rattle.std.proofs.Common.{◌≡◌, ◌≤◌, ◌+◌, ℕ, Bool, List, [], ◌∷◌, ◌++◌, length, refl, ap, sym, ◌∙◌, append_assoc, arith, inl, inr}
 use Rattle.std.proofs.lemmas.Bool.{cases_Bool}
 use Rattle.uds_rules.specs.Rule.{RuleValue}

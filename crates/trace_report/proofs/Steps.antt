@@ -1,8 +1,10 @@
 -- What a report has of a trace, with one more frame.
-use Rattle.std.proofs.Common.{◌≡◌, ◌≤◌, ◌*◌, ℕ, Bool, List, [], ◌∷◌, ◌++◌, length, Option, Some, None, arith, refl, ap, sym, ◌∙◌, append_assoc, append-nil}
+use Rattle.std.proofs.Common.{◌≡◌, ◌≤◌, ◌*◌, ℕ, Bool, false, List, [], ◌∷◌, ◌++◌, length, Option}
+use Rattle.std.proofs.Common.{Some, None, arith, refl, ap, sym, ◌∙◌, append_assoc, append-nil}
 use Rattle.std.proofs.lemmas.List.{length-append}
 use Rattle.std.specs.Prelude.{if◌then◌else◌}
 use Rattle.direction.specs.Dir.{Message}
+use Rattle.isotp_receive.specs.Channels.{dir_of, is_functional}
 use Rattle.isotp_receive.specs.declared.event.Ended.{Ended}
 use Rattle.isotp_receive.specs.Trace.{Entry}
 use Rattle.isotp_receive.specs.Verdict.{VerdictValue, message, began, stored, flowed, dropped, verdict}
@@ -12,7 +14,8 @@ use Rattle.uds_exchange.specs.declared.step.Step.{Step}
 use Rattle.uds_exchange.specs.declared.step.Step.TheVariants as becomes
 use Rattle.uds_rules.specs.Rule.{RuleValue, made_of}
 use Rattle.trace_log.specs.Messages.{messages_under}
-use Rattle.trace_report.specs.Events.{asked_behind, asked_in, closing_before, completes_request, ended_rows, frame_rows, ends_nothing, left_rows, message_place, rows_behind, rows_of, verdict_rows, waiting_row}
+use Rattle.trace_report.specs.Events.{asked_all_in, asked_in, closing_before, completes_request, ended_rows, frame_rows, ends_nothing}
+use Rattle.trace_report.specs.Events.{last_request_behind, left_rows, message_place, rows_behind, rows_of, verdict_rows, waiting_row}
 use Rattle.trace_report.specs.Roles.{role_of_step}
 use Rattle.trace_report.specs.Page.{first_time, last_time}
 use Rattle.trace_report.specs.Rows as row
@@ -33,19 +36,26 @@ rows_more limit rules past (x ∷ T) e =
 pub rows_next : (limit : ℕ) (rules : List RuleValue) (T : List Entry) (e : Entry) → rows_of limit rules (T ++ e ∷ []) ≡ rows_of limit rules T ++ frame_rows limit rules T e
 rows_next limit rules T e = rows_more limit rules [] T e
 
-asked_more : (limit : ℕ) (rules : List RuleValue) (earlier : ℕ) (past T : List Entry) (e : Entry)
-    → asked_behind limit rules earlier past (T ++ e ∷ []) ≡ (if completes_request limit rules (past ++ T) e then e.micros else asked_behind limit rules earlier past T)
-asked_more limit rules earlier past [] e =
-    ap (λ (before : List Entry). if completes_request limit rules before e then e.micros else earlier) (sym (append-nil past))
-asked_more limit rules earlier past (x ∷ T) e =
-    let asked = if completes_request limit rules past x then x.micros else earlier in
-    asked_more limit rules asked (past ++ x ∷ []) T e
-    ∙ ap (λ (before : List Entry). if completes_request limit rules before e then e.micros else asked_behind limit rules asked (past ++ x ∷ []) T) (append_assoc past (x ∷ []) T)
+request_more : {A : Type 0} (of : Entry → A) (limit : ℕ) (rules : List RuleValue) (earlier : A) (past T : List Entry) (e : Entry)
+    → last_request_behind of limit rules earlier past (T ++ e ∷ [])
+    ≡ (if completes_request limit rules (past ++ T) e then of e else last_request_behind of limit rules earlier past T)
+request_more of limit rules earlier past [] e =
+    ap (λ (before : List Entry). if completes_request limit rules before e then of e else earlier) (sym (append-nil past))
+request_more of limit rules earlier past (x ∷ T) e =
+    let asked = if completes_request limit rules past x then of x else earlier in
+    request_more of limit rules asked (past ++ x ∷ []) T e
+    ∙ ap (λ (before : List Entry). if completes_request limit rules before e then of e else last_request_behind of limit rules asked (past ++ x ∷ []) T)
+    (append_assoc past (x ∷ []) T)
 
 -- the time at which its last request was complete
 pub asked_next : (limit : ℕ) (rules : List RuleValue) (T : List Entry) (e : Entry)
     → asked_in limit rules (T ++ e ∷ []) ≡ (if completes_request limit rules T e then e.micros else asked_in limit rules T)
-asked_next limit rules T e = asked_more limit rules 0 [] T e
+asked_next limit rules T e = request_more (λ e. e.micros) limit rules 0 [] T e
+
+-- whether its last request went to all units
+pub asked_all_next : (limit : ℕ) (rules : List RuleValue) (T : List Entry) (e : Entry)
+    → asked_all_in limit rules (T ++ e ∷ []) ≡ (if completes_request limit rules T e then is_functional e.channel else asked_all_in limit rules T)
+asked_all_next limit rules T e = request_more (λ e. is_functional e.channel) limit rules false [] T e
 
 -- the time of its last frame
 pub last_next : (earlier : ℕ) (T : List Entry) (e : Entry) → last_time earlier (T ++ e ∷ []) ≡ e.micros
@@ -60,16 +70,16 @@ times_next (x ∷ T) e first last first_is last_is = (λ i. Some (record { first
 
 -- Rows are few: three of a frame at the most.
 
-few_waiting : (M : List Message) (waiting : Option (List ℕ)) → length (waiting_row M waiting) ≤ 1
-few_waiting M None = omega arith
-few_waiting M (Some request) = omega arith
+few_waiting : (M : List Message) (to_all : Bool) (waiting : Option (List ℕ)) → length (waiting_row M to_all waiting) ≤ 1
+few_waiting M to_all None = omega arith
+few_waiting M to_all (Some request) = omega arith
 
-few_before : (M : List Message) (step : Step) → length (closing_before M step) ≤ 1
-few_before M (becomes.Request service) = few_waiting M (open_request M)
-few_before M becomes.Answer = omega arith
-few_before M becomes.Removed = omega arith
-few_before M becomes.Hold = omega arith
-few_before M becomes.Pass = omega arith
+few_before : (M : List Message) (to_all : Bool) (step : Step) → length (closing_before M to_all step) ≤ 1
+few_before M to_all (becomes.Request service) = few_waiting M to_all (open_request M)
+few_before M to_all becomes.Answer = omega arith
+few_before M to_all becomes.Removed = omega arith
+few_before M to_all becomes.Hold = omega arith
+few_before M to_all becomes.Pass = omega arith
 
 few_ended : (e : Entry) (ended : Option Ended) → length (ended_rows e ended) ≤ 1
 few_ended e None = omega arith
@@ -80,10 +90,11 @@ few_left : (limit : ℕ) (rules : List RuleValue) (T : List Entry) (e : Entry) (
 few_left limit rules T e None = omega arith
 few_left limit rules T e (Some bytes) =
     let M = messages_under rules limit T in
-    let step = step_after M (e.dir, bytes) in
-    let one = few_before M step in
-    let row = row.message (role_of_step (asked_in limit rules T) step e.dir bytes) e.dir (message_place limit rules T e bytes) bytes in
-    let both = length-append (closing_before M step) (row ∷ []) in
+    let step = step_after M (dir_of e.channel, bytes) in
+    let to_all = asked_all_in limit rules T in
+    let one = few_before M to_all step in
+    let row = row.message (role_of_step (asked_in limit rules T) step (dir_of e.channel) bytes) (dir_of e.channel) (message_place limit rules T e bytes) bytes in
+    let both = length-append (closing_before M to_all step) (row ∷ []) in
     omega (arith, one, both)
 
 few_of_verdict : (limit : ℕ) (rules : List RuleValue) (T : List Entry) (e : Entry) (linked : Bool) (did : VerdictValue)

@@ -1,5 +1,6 @@
 -- What the verdict of a report is made of, with one more row.
-use Rattle.std.proofs.Common.{◌≡◌, ℕ, ◌<◌, ◌≤◌, ◌^◌, ◌-◌, ◌==◌, Bool, true, false, List, [], ◌∷◌, ◌++◌, length, take, zero, suc, refl, ap, sym, ◌∙◌, append-nil, arith, suc-le-suc, le_trans, zero-le}
+use Rattle.std.proofs.Common.{◌≡◌, ℕ, ◌<◌, ◌≤◌, ◌^◌, ◌-◌, ◌==◌, Bool, true, false, List, [], ◌∷◌, ◌++◌, length, take}
+use Rattle.std.proofs.Common.{zero, suc, refl, ap, sym, ◌∙◌, append-nil, arith, suc-le-suc, le_trans, zero-le}
 use Rattle.std.specs.Prelude.{if◌then◌else◌}
 use Rattle.std.proofs.lemmas.Grind.{flat_map-append}
 use Rattle.std.proofs.lemmas.List.{length-append}
@@ -51,6 +52,7 @@ counts_by targets = record {
   positives = length (targets sort.Positives);
   negatives = length (targets sort.Negatives);
   unanswered = length (targets sort.Unanswered);
+  to_all_units = length (targets sort.ToAllUnits);
   silent = length (targets sort.Silent);
   pendings = length (targets sort.Pendings);
   keep_alives = length (targets sort.KeepAlives);
@@ -86,6 +88,7 @@ module _ (targets : Sort → List LinkTarget) (target : LinkTarget) where
   counts_more few sort.KeepAlives = ap (λ n. record (counts_by targets) { keep_alives = n }) (one_longer (targets sort.KeepAlives) target (few sort.KeepAlives))
   counts_more few sort.Strays = ap (λ n. record (counts_by targets) { strays = n }) (one_longer (targets sort.Strays) target (few sort.Strays))
   counts_more few sort.Unanswered = ap (λ n. record (counts_by targets) { unanswered = n }) (one_longer (targets sort.Unanswered) target (few sort.Unanswered))
+  counts_more few sort.ToAllUnits = ap (λ n. record (counts_by targets) { to_all_units = n }) (one_longer (targets sort.ToAllUnits) target (few sort.ToAllUnits))
   counts_more few sort.Silent = ap (λ n. record (counts_by targets) { silent = n }) (one_longer (targets sort.Silent) target (few sort.Silent))
   counts_more few sort.Dropped = ap (λ n. record (counts_by targets) { dropped = n }) (one_longer (targets sort.Dropped) target (few sort.Dropped))
   counts_more few sort.Ended = ap (λ n. record (counts_by targets) { ended = n }) (one_longer (targets sort.Ended) target (few sort.Ended))
@@ -102,6 +105,7 @@ module _ (targets : Sort → List LinkTarget) (target : LinkTarget) where
   first_more sort.Positives = refl
   first_more sort.Pendings = refl
   first_more sort.KeepAlives = refl
+  first_more sort.ToAllUnits = refl
   first_more sort.Silent = refl
 
 -- the counts are right with one more row

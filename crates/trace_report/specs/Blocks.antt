@@ -24,12 +24,13 @@ open_blocks = 10
 -- an exchange begins with the row: it tells a request
 abbrev pub begins_exchange : RowValue → Bool
 begins_exchange (message is d place bytes) = is_request_role is
-begins_exchange (no_answer number silent) = false
+begins_exchange (no_answer number silence) = false
 begins_exchange (dropped place d linked why) = false
 begins_exchange (ended place end) = false
 begins_exchange (unfinished d line len) = false
 
--- a block begins before a row, which begins an exchange or does not, where so many blocks stand, and the last has so many rows
+-- a block begins before a row, which begins an exchange or does not, where so many blocks stand, and the last has so
+-- many rows
 abbrev pub begins_block : Bool → Blocks → Bool
 begins_block exchange blocks =
     blocks.count == 0 || (nat_le largest_block blocks.rows || (exchange && nat_le full_block blocks.rows))
@@ -52,9 +53,13 @@ blocks_behind blocks (row ∷ rest) = blocks_behind (one_more_row (begins_exchan
 abbrev pub blocks_of : List RowValue → Blocks
 blocks_of rows = blocks_behind no_blocks rows
 
+-- where a frame stands: its line, and its time
+abbrev pub line_and_time : ℕ → FramePlace → List ℕ
+line_and_time origin place = codes "line " ++ decimal place.line ++ codes ", " ++ seconds_between origin place.micros ++ codes " s"
+
 -- the title of a block that begins with the row of a frame in this place
 abbrev pub from_place : ℕ → FramePlace → List ℕ
-from_place origin place = codes "From line " ++ decimal place.line ++ codes ", " ++ seconds_between origin place.micros ++ codes " s"
+from_place origin place = codes "From " ++ line_and_time origin place
 
 -- the title of a block that begins with a row of this item
 abbrev pub item_title : ℕ → List ℕ
@@ -62,20 +67,20 @@ item_title number = codes "From item " ++ decimal number
 
 -- the title of a block that begins with the row of a message: its item, and where its first frame stands
 abbrev pub message_title : ℕ → MessagePlace → List ℕ
-message_title origin place =
-    item_title place.item ++ codes ", line " ++ decimal place.first.line ++ codes ", " ++ seconds_between origin place.first.micros ++ codes " s"
+message_title origin place = item_title place.item ++ codes ", " ++ line_and_time origin place.first
 
 -- the title of a block, by the row that it begins with
 abbrev pub block_title : ℕ → RowValue → List ℕ
 block_title origin (message is d place bytes) = message_title origin place
-block_title origin (no_answer number silent) = item_title number
+block_title origin (no_answer number silence) = item_title number
 block_title origin (dropped place d linked why) = from_place origin place
 block_title origin (ended place end) = from_place origin place
 block_title origin (unfinished d line len) = codes "At the end of the log"
 
 -- the start of a block, which is open or folded by how many blocks stand before it
 abbrev pub block_start : ℕ → List ℕ
-block_start before = if nat_lt before open_blocks then codes "<details class=\"b\" open>\n<summary>" else codes "<details class=\"b\">\n<summary>"
+block_start before =
+    codes "<details class=\"b\"" ++ (if nat_lt before open_blocks then codes " open" else []) ++ codes ">\n<summary>"
 
 -- the end of the last block, if one stands
 abbrev pub block_end : ℕ → List ℕ

@@ -1,5 +1,5 @@
--- The rows of messages that rules have left, in blocks that are folded at first: the front of a row, and one line of words
--- without a shape. What needs attention has its full row there, too.
+-- The rows of messages that rules have left, in blocks that are folded at first: the front of a row, and one line of
+-- words without a shape. What needs attention has its full row there, too.
 use Rattle.std.specs.Prelude.{ℕ, true, List, [], ◌++◌, codes, if◌then◌else◌}
 use Rattle.direction.specs.declared.Dir.{Dir}
 use Rattle.uds_message.specs.Message.{sid}
@@ -13,20 +13,25 @@ use Rattle.trace_report.specs.MessageRows.{message_front, after_text, message_ro
 use Rattle.trace_report.specs.Sorts.{message_needs_attention}
 use Rattle.trace_report.specs.declared.roles.MessageRole.TheVariants as role
 
+-- the word of a message to all units; any other has none
+abbrev pub brief_functional : MessagePlace → List ℕ
+brief_functional place = if place.is_functional then codes "functional " else []
+
 -- the words of a message that needs no attention, in a block of brief rows; one that does has none there
-abbrev pub brief_words : List RuleValue → MessageRole → ℕ → List ℕ → List ℕ
-brief_words rules role.Request first bytes = service_text (sid bytes) ++ codes " request " ++ brief_data rules bytes ++ codes " &#8594;"
-brief_words rules (role.Positive asked) first bytes = codes "&#8592; positive " ++ brief_data rules bytes ++ codes " " ++ after_text asked first
-brief_words rules (role.Negative asked) first bytes = []
-brief_words rules (role.Pending asked) first bytes = codes "&#8592; pending " ++ brief_data rules bytes ++ codes " " ++ after_text asked first
-brief_words rules role.KeepAlive first bytes = codes "keep-alive " ++ brief_data rules bytes ++ codes " &#8594;"
-brief_words rules role.Stray first bytes = []
+abbrev pub brief_words : List RuleValue → MessageRole → MessagePlace → List ℕ → List ℕ
+brief_words rules role.Request place bytes =
+    service_text (sid bytes) ++ codes " request " ++ brief_functional place ++ brief_data rules bytes ++ codes " &#8594;"
+brief_words rules (role.Positive asked) place bytes = codes "&#8592; positive " ++ brief_data rules bytes ++ codes " " ++ after_text asked place.first.micros
+brief_words rules (role.Negative asked) place bytes = []
+brief_words rules (role.Pending asked) place bytes = codes "&#8592; pending " ++ brief_data rules bytes ++ codes " " ++ after_text asked place.first.micros
+brief_words rules role.KeepAlive place bytes = codes "keep-alive " ++ brief_functional place ++ brief_data rules bytes ++ codes " &#8594;"
+brief_words rules role.Stray place bytes = []
 
 -- the row of a message that needs no attention, in a block of brief rows
 abbrev pub brief_row : List RuleValue → ℕ → MessageRole → Dir → MessagePlace → List ℕ → List ℕ
 brief_row rules origin is d place bytes =
     message_front true origin is place ++ codes "<td class=\"" ++ side_text d ++ codes "\">"
-    ++ brief_words rules is place.first.micros bytes ++ codes "\n"
+    ++ brief_words rules is place bytes ++ codes "\n"
 
 -- the row of a message in a block of brief rows: in full, where the message needs attention
 abbrev pub brief_message : List RuleValue → ℕ → MessageRole → Dir → MessagePlace → List ℕ → List ℕ

@@ -33,8 +33,8 @@ cause_of Read max_bytes source = None
 cause_of Write max_bytes source = None
 cause_of Memory max_bytes source = None
 
--- What is said of a cause: words, a number if there is one, words, the name of the log where it is said, what it is, and
--- what mends it.
+-- What is said of a cause: words, a number if there is one, words, the name of the log where it is said, what it is,
+-- and what mends it.
 pub record CauseRowValue : Type 0 where
   pub before : List ℕ
   pub number : Option ℕ

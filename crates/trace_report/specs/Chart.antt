@@ -16,10 +16,11 @@ abbrev pub message_text : List RuleValue → Bool → ℕ → MessageRole → Di
 message_text rules true origin is d place bytes = brief_message rules origin is d place bytes
 message_text rules false origin is d place bytes = message_row rules origin is d place bytes
 
--- the text of a row, in a block of brief rows or in another, where `origin` is the time of the first frame of the two sides
+-- the text of a row, in a block of brief rows or in another, where `origin` is the time of the first frame of the two
+-- sides
 abbrev pub row_text : List RuleValue → Bool → ℕ → RowValue → List ℕ
 row_text rules brief origin (message is d place bytes) = message_text rules brief origin is d place bytes
-row_text rules brief origin (no_answer number silent) = no_answer_row number silent
+row_text rules brief origin (no_answer number silence) = no_answer_row number silence
 row_text rules brief origin (dropped place d linked why) = dropped_row linked origin place d why
 row_text rules brief origin (ended place end) = ended_row true origin place end
 row_text rules brief origin (unfinished d line len) = unfinished_row true d line len

@@ -1,5 +1,5 @@
 -- The counts of a report: of the log, of its items, and of what is missing.
-use Rattle.std.specs.Prelude.{ℕ, ◌==◌, Bool, false, List, [], ◌++◌, codes, if◌then◌else◌}
+use Rattle.std.specs.Prelude.{ℕ, ◌==◌, not, Bool, false, List, [], ◌++◌, codes, if◌then◌else◌}
 use Rattle.std.specs.Fmt.{decimal}
 use Rattle.trace_report.specs.Sorts.{needs_attention}
 use Rattle.trace_report.specs.declared.tally.SortCounts.{SortCounts}
@@ -22,7 +22,7 @@ sort_count kind words count = count_line (needs_attention kind) words count
 
 -- how many messages of the log rules left out, where they left out one
 abbrev pub left_out_count : ℕ → List ℕ
-left_out_count count = if count == 0 then [] else count_line false (codes "left out") count
+left_out_count count = if not (count == 0) then count_line false (codes "left out") count else []
 
 -- how many lines, frames and messages the log has, and how many messages rules left out
 abbrev pub log_counts : Summary → List ℕ
@@ -30,12 +30,16 @@ log_counts summary =
     count_line false (codes "lines") summary.lines ++ count_line false (codes "frames") summary.frames
     ++ count_line false (codes "messages") summary.messages ++ left_out_count summary.left_out
 
+-- how many requests to all units have no answer, where one has none
+abbrev pub to_all_units_count : ℕ → List ℕ
+to_all_units_count count = if not (count == 0) then sort_count sort.ToAllUnits (codes "no answer (all units)") count else []
+
 -- how many requests the rows tell, and how these were answered
 abbrev pub answer_counts : SortCounts → List ℕ
 answer_counts counts =
     sort_count sort.Requests (codes "requests") counts.requests ++ sort_count sort.Positives (codes "positive") counts.positives
     ++ sort_count sort.Negatives (codes "negative") counts.negatives ++ sort_count sort.Unanswered (codes "no answer") counts.unanswered
-    ++ sort_count sort.Silent (codes "silent") counts.silent
+    ++ to_all_units_count counts.to_all_units ++ sort_count sort.Silent (codes "silent") counts.silent
 
 -- how many messages the rows tell that are neither requests nor answers
 abbrev pub other_counts : SortCounts → List ℕ

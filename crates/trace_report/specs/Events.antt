@@ -1,8 +1,9 @@
--- The rows of a trace under rules: what the report tells of each frame, and of the end of the log, by the frames before it.
--- What frames did is told of the log as it is, and of messages what the rules leave.
+-- The rows of a trace under rules: what the report tells of each frame, and of the end of the log, by the frames before
+-- it. What frames did is told of the log as it is, and of messages what the rules leave.
 use Rattle.std.specs.Prelude.{ℕ, ◌+◌, Bool, true, false, List, [], ◌∷◌, ◌++◌, Option, Some, None, if◌then◌else◌}
 use Rattle.direction.specs.Dir.{Message}
 use Rattle.direction.specs.declared.Dir.{Dir}
+use Rattle.isotp_receive.specs.Channels.{dir_of, is_functional}
 use Rattle.isotp_receive.specs.declared.event.Ended.{Ended}
 use Rattle.isotp_receive.specs.StandingReception.{StandingReception, receptions_after, stands}
 use Rattle.isotp_receive.specs.Trace.{Entry, FrameRole, single, first, consecutive, continue_or_wait, overflow, no_part, role}
@@ -10,11 +11,11 @@ use Rattle.isotp_receive.specs.Verdict.{VerdictValue, EventValue, message, began
 use Rattle.uds_exchange.specs.Judging.{number_after, open_number, step_after}
 use Rattle.uds_exchange.specs.Order.{open_request}
 use Rattle.uds_exchange.specs.declared.step.Step.{Step}
-use Rattle.uds_message.specs.Message.{is_suppressing}
 use Rattle.uds_rules.specs.Rule.{RuleValue, made_of}
 use Rattle.trace_log.specs.Messages.{messages_under}
 use Rattle.trace_canon.specs.FirstFrames.{first_frame, place_of}
 use Rattle.trace_report.specs.Rows.{RowValue}
+use Rattle.trace_report.specs.Silences.{silence_of}
 use Rattle.trace_report.specs.declared.row.MessagePlace.{MessagePlace}
 use Rattle.trace_report.specs.Roles.{role_of_step}
 use Rattle.direction.specs.declared.Dir.TheVariants as dir
@@ -32,7 +33,7 @@ is_request_step becomes.Pass = false
 -- the message that rules left of the one that the frame e completes after the frames T, if they left one, is a request
 abbrev pub is_request_left : ℕ → List RuleValue → List Entry → Entry → Option (List ℕ) → Bool
 is_request_left limit rules T e None = false
-is_request_left limit rules T e (Some bytes) = is_request_step (step_after (messages_under rules limit T) (e.dir, bytes))
+is_request_left limit rules T e (Some bytes) = is_request_step (step_after (messages_under rules limit T) (dir_of e.channel, bytes))
 
 -- the frame e completes a request under rules after the frames T, where it does this there
 abbrev pub completes_request_by : ℕ → List RuleValue → List Entry → Entry → VerdictValue → Bool
@@ -46,16 +47,20 @@ completes_request_by limit rules T e (dropped reason) = false
 abbrev pub completes_request : ℕ → List RuleValue → List Entry → Entry → Bool
 completes_request limit rules T e = completes_request_by limit rules T e (verdict limit T e).verdict
 
--- the time of the last of these frames that completes a request, where the frames `past` came before them; `earlier`
+-- what is so of the last of these frames that completes a request, where the frames `past` came before them; `earlier`
 -- where none of them does
-abbrev pub asked_behind : ℕ → List RuleValue → ℕ → List Entry → List Entry → ℕ
-asked_behind limit rules earlier past [] = earlier
-asked_behind limit rules earlier past (e ∷ rest) =
-    asked_behind limit rules (if completes_request limit rules past e then e.micros else earlier) (past ++ e ∷ []) rest
+abbrev pub last_request_behind : {A : Type 0} → (Entry → A) → ℕ → List RuleValue → A → List Entry → List Entry → A
+last_request_behind of limit rules earlier past [] = earlier
+last_request_behind of limit rules earlier past (e ∷ rest) =
+    last_request_behind of limit rules (if completes_request limit rules past e then of e else earlier) (past ++ e ∷ []) rest
 
 -- the time at which the last request of a trace was complete; 0 where it has none
 abbrev pub asked_in : ℕ → List RuleValue → List Entry → ℕ
-asked_in limit rules T = asked_behind limit rules 0 [] T
+asked_in limit rules T = last_request_behind (λ e. e.micros) limit rules 0 [] T
+
+-- the last request of a trace went to all units
+abbrev pub asked_all_in : ℕ → List RuleValue → List Entry → Bool
+asked_all_in limit rules T = last_request_behind (λ e. is_functional e.channel) limit rules false [] T
 
 -- how many frames carry a message that a frame of this role completes, where this reception stands for its direction
 abbrev pub frames_by : Option StandingReception → FrameRole → ℕ
@@ -67,42 +72,44 @@ frames_by standing continue_or_wait = 1
 frames_by standing overflow = 1
 frames_by standing no_part = 1
 
--- the place of what rules left of a message that the frame e completes after the frames T: its item, its first frame and
--- its last one, and how many carry it
+-- the place of what rules left of a message that the frame e completes after the frames T: its item, its first frame
+-- and its last one, how many carry it, and whether it was sent to all units
 abbrev pub message_place : ℕ → List RuleValue → List Entry → Entry → List ℕ → MessagePlace
 message_place limit rules T e bytes = record {
-  item = number_after (messages_under rules limit T) (e.dir, bytes);
+  item = number_after (messages_under rules limit T) (dir_of e.channel, bytes);
   first = place_of (first_frame T e);
   last = place_of e;
-  frames = frames_by (stands limit e.dir T) (role e.dir e);
+  frames = frames_by (stands limit e.channel T) (role e.channel e);
+  is_functional = is_functional e.channel;
 }
 
--- the row that tells that the request of the open exchange has no answer, if one is open after these messages
-abbrev pub waiting_row : List Message → Option (List ℕ) → List RowValue
-waiting_row M None = []
-waiting_row M (Some request) = row.no_answer (open_number M) (is_suppressing request) ∷ []
+-- the row that tells that the request of the open exchange has no answer, if one is open after these messages, which
+-- went to all units or to one
+abbrev pub waiting_row : List Message → Bool → Option (List ℕ) → List RowValue
+waiting_row M to_all None = []
+waiting_row M to_all (Some request) = row.no_answer (open_number M) (silence_of to_all request) ∷ []
 
 -- the row that tells that a request has no answer, where these messages end with it unanswered
-abbrev pub closing_rows : List Message → List RowValue
-closing_rows M = waiting_row M (open_request M)
+abbrev pub closing_rows : List Message → Bool → List RowValue
+closing_rows M to_all = waiting_row M to_all (open_request M)
 
--- the rows that stand before the row of a message, where this is what becomes of it: a request closes the exchange before
--- it
-abbrev pub closing_before : List Message → Step → List RowValue
-closing_before M step = if is_request_step step then closing_rows M else []
+-- the rows that stand before the row of a message, where this is what becomes of it: a request closes the exchange
+-- before it
+abbrev pub closing_before : List Message → Bool → Step → List RowValue
+closing_before M to_all step = if is_request_step step then closing_rows M to_all else []
 
--- the rows of what rules left of a message that the frame e completes after the frames T, where this is what becomes of it:
--- what closes before it, and its own
+-- the rows of what rules left of a message that the frame e completes after the frames T, where this is what becomes of
+-- it: what closes before it, and its own
 abbrev pub message_rows : ℕ → List RuleValue → List Entry → Entry → List ℕ → Step → List RowValue
 message_rows limit rules T e bytes step =
-    closing_before (messages_under rules limit T) step
-    ++ row.message (role_of_step (asked_in limit rules T) step e.dir bytes) e.dir (message_place limit rules T e bytes) bytes ∷ []
+    closing_before (messages_under rules limit T) (asked_all_in limit rules T) step
+    ++ row.message (role_of_step (asked_in limit rules T) step (dir_of e.channel) bytes) (dir_of e.channel) (message_place limit rules T e bytes) bytes ∷ []
 
 -- the rows of the message that rules left of the one that the frame e completes after the frames T, if they left one
 abbrev pub left_rows : ℕ → List RuleValue → List Entry → Entry → Option (List ℕ) → List RowValue
 left_rows limit rules T e None = []
 left_rows limit rules T e (Some bytes) =
-    message_rows limit rules T e bytes (step_after (messages_under rules limit T) (e.dir, bytes))
+    message_rows limit rules T e bytes (step_after (messages_under rules limit T) (dir_of e.channel, bytes))
 
 -- a frame ended no reception
 abbrev pub ends_nothing : Option Ended → Bool
@@ -115,7 +122,7 @@ verdict_rows limit rules T e linked (message bytes) = left_rows limit rules T e 
 verdict_rows limit rules T e linked began = []
 verdict_rows limit rules T e linked stored = []
 verdict_rows limit rules T e linked flowed = []
-verdict_rows limit rules T e linked (dropped reason) = row.dropped (place_of e) e.dir linked reason ∷ []
+verdict_rows limit rules T e linked (dropped reason) = row.dropped (place_of e) (dir_of e.channel) linked reason ∷ []
 
 -- the row that tells which reception the frame e ended, if it ended one
 abbrev pub ended_rows : Entry → Option Ended → List RowValue
@@ -148,4 +155,4 @@ standing_row d (Some begun) = row.unfinished d begun.line begun.len ∷ []
 abbrev pub end_rows : ℕ → List RuleValue → List Entry → List RowValue
 end_rows limit rules T =
     standing_row dir.Tester (receptions_after limit T).tester ++ standing_row dir.Unit (receptions_after limit T).unit
-    ++ closing_rows (messages_under rules limit T)
+    ++ closing_rows (messages_under rules limit T) (asked_all_in limit rules T)

@@ -8,8 +8,8 @@ use Rattle.uds_rules.specs.Rule.{RuleValue}
 use Rattle.trace_report.specs.RulesStyle.{rules_style}
 use Rattle.shown_bytes.specs.LogNames.{name_text}
 
--- What a page is made for: its style, the name of the log, the identifiers, the limit of the log, and the rules that its
--- messages are under.
+-- What a page is made for: its style, the name of the log, the identifiers, the limit of the log, and the rules that
+-- its messages are under.
 pub record PageTitleValue : Type 0 where
   pub style : List ℕ
   pub name : List ℕ
@@ -29,9 +29,9 @@ page_title style name settings = record {
   rules = settings.rules;
 }
 
--- the start of each page, by which nothing may be fetched and nothing may run
-abbrev pub page_start : List ℕ
-page_start =
+-- the front of each page, up to its title, by which nothing may be fetched and nothing may run
+abbrev pub document_front : List ℕ
+document_front =
     codes "<!doctype html>\n<html lang=\"en\">\n<head>\n<meta charset=\"utf-8\">\n"
     ++ codes "<meta name=\"viewport\" content=\"width=device-width, initial-scale=1\">\n"
     ++ codes "<meta name=\"color-scheme\" content=\"light dark\">\n"
@@ -40,10 +40,11 @@ page_start =
 -- the head of the page of one log: its start, its title, and its style
 abbrev pub head_text : PageTitleValue → List ℕ
 head_text title =
-    page_start ++ codes "<title>" ++ name_text title.name ++ codes " - udsnorm report</title>\n<style>\n" ++ title.style
+    document_front ++ codes "<title>" ++ name_text title.name ++ codes " - udsnorm report</title>\n<style>\n" ++ title.style
     ++ rules_style title.rules ++ codes "</style>\n</head>\n<body>\n"
 
--- the shapes of the arrows: of a message (t, u), of a frame that was dropped (tx, ux), and of what was cut short (te, ue)
+-- the shapes of the arrows: of a message (t, u), of a frame that was dropped (tx, ux), and of what was cut short (te,
+-- ue)
 abbrev pub shapes_text : List ℕ
 shapes_text =
     codes "<svg class=\"defs\" aria-hidden=\"true\"><defs>\n"
@@ -55,13 +56,14 @@ shapes_text =
     ++ codes "<g id=\"ue\"><line class=\"l\" x1=\"40%\" x2=\"100%\" y1=\"6\" y2=\"6\"/><svg x=\"40%\" overflow=\"visible\"><path class=\"k\" d=\"M-1 0v12m-5-12v12\"/></svg></g>\n"
     ++ codes "</defs></svg>\n"
 
--- the links of the page of one log; its verdict is written last: the style shows it first, and hides the words that say so
+-- the links of the page of one log; its verdict is written last: the style shows it first, and hides the words that say
+-- so
 abbrev pub page_links : List ℕ
 page_links =
     codes "<p class=\"skip\"><a href=\"#verdict\">Verdict<span class=\"plain\">, at the end of this page</span></a> <a href=\"#session\">Session</a> <a href=\"#help\">How to read this page</a></p>\n"
 
--- the notice of a page that breaks off, which is hidden unless the style shows it, where the end of the page is missing;
--- and the end of the header
+-- the notice of a page that breaks off, which is hidden unless the style shows it, where the end of the page is
+-- missing; and the end of the header
 abbrev pub cut_notice : List ℕ
 cut_notice =
     codes "<p id=\"cut\" role=\"status\" hidden>This page has no end. What wrote it was stopped, or the file was cut, or the page is still loading: it tells nothing of the rest of the session.</p>\n</header>\n"

@@ -11,8 +11,8 @@ times_words =
     codes "Times are in seconds from the first frame of the two identifiers, and those of a message are of its last frame; <i>after</i> is the time from the last frame of the request to the first frame of the reply, with a minus where the clock of the log went back.</p>\n"
 
 -- the words of the help on what the page of one log shows
-abbrev pub help_start : List ℕ
-help_start =
+abbrev pub help_front : List ℕ
+help_front =
     help_heading
     ++ codes "<p>The left line is the tester, the right line the unit. Each arrow is a message, however many frames carried it, in the order in which the messages were complete. "
     ++ times_words
@@ -39,12 +39,13 @@ others_legend =
 abbrev pub legend_text : List ℕ
 legend_text = codes "<dl class=\"legend\">\n" ++ exchange_legend ++ others_legend ++ codes "</dl>\n"
 
--- the words of the help on the names behind bytes, and of which edition of a standard they are
+-- the words of the help on the names behind bytes, of which edition of a standard they are, and on trouble codes
 abbrev pub names_words : List ℕ
 names_words =
     codes "Small words in brackets behind the bytes are names that the standards have for the first ones: for many sub-functions, data identifiers and routines. "
     ++ codes "They are those of ISO 14229-1:2020, but for 0F to 13 of ReadDTCInformation, which are of its edition of 2013. Only that of 2020 has 56 there, and the response codes 34, 38 to 3A, 50 to 5D and 94. "
     ++ codes "A service of OBD (ISO 15031-5) or of KWP2000 (ISO 14230) has its name where a message begins as a request of it does."
+    ++ codes " The trouble codes of a response of ReadDTCInformation are read as those of SAE J2012, of whatever format they are, each with the names of the bits that are 1 in its status; of more than 16 the others are counted."
 
 -- the words of the help on what a page does not show
 abbrev pub limits_text : List ℕ
@@ -63,4 +64,4 @@ tail_text = codes "</p>\n</footer>\n</div>\n<p id=\"end\">End of the report.</p>
 
 -- the end of the page of one log
 abbrev pub help_text : List ℕ
-help_text = help_start ++ legend_text ++ limits_text ++ blocks_words ++ tail_text
+help_text = help_front ++ legend_text ++ limits_text ++ blocks_words ++ tail_text

@@ -1,5 +1,5 @@
--- What is answered of a page of a log that lies in memory. No device fails there: what has no page can't be read, or memory
--- was refused.
+-- What is answered of a page of a log that lies in memory. No device fails there: what has no page can't be read, or
+-- memory was refused.
 use Rattle.std.specs.Prelude.{⊤, ℕ, List}
 use Rattle.trace_canon.specs.InMemory.{IsSaidWith}
 use Rattle.trace_log.specs.Settings.{Settings}

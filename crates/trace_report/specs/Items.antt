@@ -1,5 +1,5 @@
--- The items of a session by its rows: each with the message that begins it and its answer, in the order of the numbers that
--- `udsnorm list` gives them.
+-- The items of a session by its rows: each with the message that begins it and its answer, in the order of the numbers
+-- that `udsnorm list` gives them.
 use Rattle.std.specs.Prelude.{ℕ, ◌+◌, ◌-◌, ◌==◌, Bool, false, List, [], ◌∷◌, Option, Some, None, option_map, if◌then◌else◌}
 use Rattle.direction.specs.declared.Dir.{Dir}
 use Rattle.uds_exchange.specs.Meaning.{ItemValue, exchange, stray}
@@ -33,7 +33,7 @@ item_of item = record { begin = message_of item.begin; answer = option_map messa
 -- the message that a row tells, if it tells one
 abbrev pub message_in : RowValue → Option RowMessageValue
 message_in (message is d place bytes) = Some (record { role = is; dir = d; place = place; bytes = bytes })
-message_in (no_answer number silent) = None
+message_in (no_answer number silence) = None
 message_in (dropped place d linked why) = None
 message_in (ended place end) = None
 message_in (unfinished d line len) = None
@@ -61,7 +61,8 @@ abbrev pub beginning : Option RowMessageValue → Option RowMessageValue
 beginning None = None
 beginning (Some sent) = if begins_item sent.role then Some sent else None
 
--- the items of a row and those behind it: that of the message, where the row begins an item with one, and these later ones
+-- the items of a row and those behind it: that of the message, where the row begins an item with one, and these later
+-- ones
 abbrev pub items_by : Option RowMessageValue → List RowValue → List PlacedItemValue → List PlacedItemValue
 items_by None rest later = later
 items_by (Some begin) rest later = item_begun begin rest ∷ later
@@ -80,7 +81,7 @@ item_value item =
 -- an item begins with the row
 abbrev pub begins : RowValue → Bool
 begins (message is d place bytes) = begins_item is
-begins (no_answer number silent) = false
+begins (no_answer number silence) = false
 begins (dropped place d linked why) = false
 begins (ended place end) = false
 begins (unfinished d line len) = false

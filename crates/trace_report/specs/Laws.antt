@@ -26,8 +26,8 @@ use Rattle.trace_report.specs.declared.row.MessagePlace.{MessagePlace}
 use Rattle.trace_report.specs.declared.roles.MessageRole.{MessageRole}
 use Rattle.trace_report.specs.declared.roles.MessageRole.TheVariants as message_role
 
--- the style of a page holds no tag, since no byte of it is a <: what would end the element that it stands in begins with that,
--- and so does a comment, which could hide what stands behind it
+-- the style of a page holds no tag, since no byte of it is a <: what would end the element that it stands in begins
+-- with that, and so does a comment, which could hide what stands behind it
 abbrev pub StyleHoldsNoTag : Type 0
 StyleHoldsNoTag = list_any (λ b. b == code "<") page_style ≡ false
 
@@ -47,8 +47,8 @@ IdentifiersStandOnce = (settings : Settings) (meanings : List (Option Stamped)) 
     → AreDistinct (identifiers_in (all_rows MESSAGE_LIMIT settings.rules (trace settings meanings)))
     × AreDistinct (identifiers_in (rows_of MESSAGE_LIMIT settings.rules (trace settings meanings)))
 
--- each link of the verdict of a log leads to one of its rows, on the page of the whole log, and on one that ends where the log
--- is refused
+-- each link of the verdict of a log leads to one of its rows, on the page of the whole log, and on one that ends where
+-- the log is refused
 abbrev pub LinksHaveTargets : Type 0
 LinksHaveTargets = (settings : Settings) (meanings : List (Option Stamped))
     → HasEachTarget (all_rows MESSAGE_LIMIT settings.rules (trace settings meanings))
@@ -80,13 +80,14 @@ TimeIsOfTheLastFrame = (rules : List RuleValue) (origin time : ℕ) (is : Messag
 abbrev pub AfterIsToTheFirstFrame : Type 0
 AfterIsToTheFirstFrame = (time : ℕ) (count : Option ℕ) (is : MessageRole) (place : MessagePlace) → note_text is (ended_at time place) count ≡ note_text is place count
 
--- how long after its request a reply came counts from the last request that was complete before, and each request is so with
--- its last frame
+-- how long after its request a reply came counts from the last request that was complete before, and each request is so
+-- with its last frame
 abbrev pub AfterIsFromTheLastFrame : Type 0
 AfterIsFromTheLastFrame = (limit : ℕ) (rules : List RuleValue) (T : List Entry) (e : Entry)
     → (completes_request limit rules T e ≡ true → asked_in limit rules (T ++ e ∷ []) ≡ e.micros)
     × (completes_request limit rules T e ≡ false → asked_in limit rules (T ++ e ∷ []) ≡ asked_in limit rules T)
 
--- whatever follows the first bytes of a sign, they tell its look: no file that begins with them is taken for another one
+-- whatever follows the first bytes of a sign, they tell its look: no file that begins with them is taken for another
+-- one
 abbrev pub LooksAreTold : Type 0
 LooksAreTold = (rest : List ℕ) → map (λ sign. look_told (sign.0 ++ rest)) signs ≡ map (λ sign. Some sign.1) signs

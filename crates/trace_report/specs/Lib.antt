@@ -1,6 +1,7 @@
 pub mod Durations
 pub mod Targets
 pub mod Roles
+pub mod Silences
 pub mod Rows
 pub mod Sorts
 pub mod MessageRows

@@ -13,7 +13,7 @@ use Rattle.trace_report.specs.declared.targets.LinkTarget.TheVariants as target
 -- the place that a row is, if links lead to it
 abbrev pub target_at : RowValue → Option LinkTarget
 target_at (message is d place bytes) = if begins_item is then Some (target.Item place.item) else None
-target_at (no_answer number silent) = None
+target_at (no_answer number silence) = None
 target_at (dropped place d linked why) = if linked then Some (target.Line place.line) else None
 target_at (ended place end) = Some (target.Line place.line)
 target_at (unfinished d begun len) = Some (target.Side d)

@@ -1,6 +1,7 @@
 -- What a file looks like that is no log, by its first bytes.
 use Prim.Native.Char.{code}
-use Rattle.std.specs.Prelude.{ℕ, ◌-◌, ◌==◌, ◌&&◌, ◌||◌, not, nat_le, nat_lt, Bool, List, [], ◌∷◌, codes, length, slice_index, Option, Some, None, map, if◌then◌else◌}
+use Rattle.std.specs.Prelude.{ℕ, ◌-◌, ◌==◌, ◌&&◌, ◌||◌, not, nat_le, nat_lt, Bool, List, [], ◌∷◌}
+use Rattle.std.specs.Prelude.{codes, length, slice_index, Option, Some, None, map, if◌then◌else◌}
 use Rattle.std.specs.List.{find, flat_map, list_any, starts_with}
 use Rattle.trace_report.specs.declared.looks.Look.{Look}
 use Rattle.trace_report.specs.declared.looks.Look.TheVariants as look
@@ -14,8 +15,8 @@ has_front bytes front = starts_with (λ one other. one == other) bytes front
 abbrev pub has_at : List ℕ → ℕ → ℕ → Bool
 has_at bytes place byte = nat_lt place (length bytes) && (slice_index bytes place == byte)
 
--- What is known of the files that look so: the first bytes that tell one, each of these alone, what is said of it behind its name,
--- and what unpacks or reads it, or what else makes a log of it.
+-- What is known of the files that look so: the first bytes that tell one, each of these alone, what is said of it
+-- behind its name, and what unpacks or reads it, or what else makes a log of it.
 pub record LookRowValue : Type 0 where
   pub first : List (List ℕ)
   pub words : List ℕ
@@ -29,11 +30,12 @@ known_by first words command = record { first = first; words = words; command = 
 abbrev pub reads : List ℕ
 reads = codes "python3 -m udsnorm reads it"
 
--- The table of looks. Compressed files are told by RFC 1952, RFC 8878, the page of the format xz, bzip2's manual and the note on
--- zip; texts by a byte order mark, in UTF-8 or in UTF-16 of either order; candump's form for the screen by two spaces before the
--- interface, or one before a stamp; Vector ASC by its date or by what its numbers are; ASAM MDF 4, ended or not; PCAN TRC by a
--- remark; captures of libpcap in micro- or nanoseconds, of either order, and those of the form pcapng, which begins with a line
--- feed. The last three looks it takes more to tell.
+-- The table of looks. Compressed files are told by RFC 1952, RFC 8878, the page of the format xz, bzip2's manual and
+-- the note on zip; texts by a byte order mark, in UTF-8 or in UTF-16 of either order; candump's form for the screen by
+-- two spaces before the interface, or one before a stamp; Vector ASC by its date or by what its numbers are; ASAM MDF
+-- 4, ended or not; PCAN TRC by a remark; captures of libpcap in micro- or nanoseconds, of either order, and those of
+-- the form pcapng, which begins with a line feed; a profile by one of its keys, or by a remark of TOML. The last three
+-- looks it takes more to tell.
 abbrev pub look_row : Look → LookRowValue
 look_row look.Gzip = known_by ((0x1F ∷ 0x8B ∷ []) ∷ []) (codes "looks compressed with gzip") (codes "zcat unpacks it")
 look_row look.Zstandard = known_by ((0x28 ∷ 0xB5 ∷ 0x2F ∷ 0xFD ∷ []) ∷ []) (codes "looks compressed with zstd") (codes "zstdcat unpacks it")
@@ -55,6 +57,8 @@ look_row look.Pcap =
     known_by ((0xA1 ∷ 0xB2 ∷ 0xC3 ∷ 0xD4 ∷ []) ∷ (0xD4 ∷ 0xC3 ∷ 0xB2 ∷ 0xA1 ∷ []) ∷ (0xA1 ∷ 0xB2 ∷ 0x3C ∷ 0x4D ∷ []) ∷ (0x4D ∷ 0x3C ∷ 0xB2 ∷ 0xA1 ∷ []) ∷ [])
     (codes "looks like a pcap capture") reads
 look_row look.Pcapng = known_by ((0x0A ∷ 0x0D ∷ 0x0D ∷ 0x0A ∷ []) ∷ []) (codes "looks like a pcapng capture") reads
+look_row look.Profile =
+    known_by (codes "drop" ∷ codes "mask" ∷ codes "[[unit" ∷ codes "# " ∷ []) (codes "looks like a profile") (codes "--profile takes it")
 look_row look.Date = known_by [] (codes "looks like a log whose stamps have a date") reads
 look_row look.Csv = known_by [] (codes "looks like a CSV file") (codes "python3 -m udsnorm reads those of SavvyCAN and python-can")
 look_row look.Nanoseconds =
@@ -101,8 +105,8 @@ text_look first line =
     else if is_table first then Some look.Csv
     else None
 
--- A stamp of more than six decimals, in the line that these bytes begin and that is refused in this column: its dot stands
--- seven places before the refused byte, where its bracket was due. There is a digit of its seconds at least.
+-- A stamp of more than six decimals, in the line that these bytes begin and that is refused in this column: its dot
+-- stands seven places before the refused byte, where its bracket was due. There is a digit of its seconds at least.
 abbrev pub has_more_decimals : List ℕ → ℕ → Bool
 has_more_decimals first column = nat_le 10 column && has_at first (column - 8) (code ".")
 

@@ -1,5 +1,5 @@
 -- The rows of messages: where a message stands, what it is to its item, its bytes, and a note.
-use Rattle.std.specs.Prelude.{ℕ, ◌==◌, ◌&&◌, Bool, true, List, [], ◌++◌, codes, nat_lt, Option, Some, None, if◌then◌else◌}
+use Rattle.std.specs.Prelude.{ℕ, ◌==◌, ◌&&◌, Bool, true, false, List, [], ◌++◌, codes, nat_lt, Option, Some, None, if◌then◌else◌}
 use Rattle.std.specs.Fmt.{decimal}
 use Rattle.direction.specs.declared.Dir.{Dir}
 use Rattle.uds_message.specs.Message.{sid, response_code}
@@ -14,7 +14,7 @@ use Rattle.trace_text.specs.Words.{direction_text, service_text}
 use Rattle.shown_bytes.specs.StandardNames.{page_code}
 use Rattle.trace_report.specs.Rows.{cell_front, cell_end, item_header, item_repeated, row_front}
 use Rattle.trace_report.specs.Roles.{begins_item, asked_at}
-use Rattle.trace_report.specs.declared.row.Arrow.TheVariants as arrow
+use Rattle.trace_report.specs.declared.cells.Arrow.TheVariants as arrow
 use Rattle.trace_report.specs.declared.roles.MessageRole.TheVariants as role
 
 -- the class of the style by which a message is shown: what it is to its item
@@ -42,8 +42,8 @@ lines_text first last = if first == last then decimal first else several_lines f
 abbrev pub named_lines : ℕ → ℕ → List ℕ
 named_lines first last = (if first == last then codes "line " else codes "lines ") ++ lines_text first last
 
--- where a message stands: its item, its lines, and the time of its last frame since the time `origin`. The first row of an
--- item is its place, to which links lead or not.
+-- where a message stands: its item, its lines, and the time of its last frame since the time `origin`. The first row of
+-- an item is its place, to which links lead or not.
 abbrev pub message_front : Bool → ℕ → MessageRole → MessagePlace → List ℕ
 message_front linked origin is place = row_front (record {
   class = role_class is;
@@ -74,6 +74,11 @@ role_words (role.Pending asked) d bytes = codes "<b>pending</b> "
 role_words role.KeepAlive d bytes = codes "<b>keep-alive</b> "
 role_words role.Stray d bytes = stray_words d
 
+-- the word of a message to all units; any other has none
+abbrev pub functional_word : Bool → List ℕ
+functional_word true = codes "<i>functional</i> "
+functional_word false = []
+
 -- how long after the last frame of its request the first frame of a reply came
 abbrev pub after_text : ℕ → ℕ → List ℕ
 after_text asked first = codes "after " ++ milliseconds_between asked first
@@ -101,8 +106,8 @@ abbrev pub carried_words : Option ℕ → List ℕ
 carried_words None = []
 carried_words (Some count) = decimal count ++ codes " bytes "
 
--- a note on a message of several frames: how many bytes they carry, and how long after its request it came, if it replies to
--- one
+-- a note on a message of several frames: how many bytes they carry, and how long after its request it came, if it
+-- replies to one
 abbrev pub frames_note : Option ℕ → ℕ → Option ℕ → ℕ → List ℕ
 frames_note count frames asked first =
     codes "<br><i>" ++ carried_words count ++ codes "in " ++ decimal frames ++ codes " frames" ++ further_note asked first ++ codes "</i>"
@@ -112,8 +117,37 @@ abbrev pub note_text : MessageRole → MessagePlace → Option ℕ → List ℕ
 note_text is place count =
     if nat_lt 1 place.frames then frames_note count place.frames (asked_at is) place.first.micros else single_note (asked_at is) place.first.micros
 
+-- A message as its row shows it.
+pub record ShownMessage : Type 0 where
+  -- whether links lead to the row
+  pub linked : Bool
+  -- the time of the first frame of the two sides
+  pub origin : ℕ
+  -- what it is to its item, which side sent it, and where it stands
+  pub is : MessageRole
+  pub d : Dir
+  pub place : MessagePlace
+  -- what it is, in words; its bytes, as they are shown; and how many it has, where that is known
+  pub words : List ℕ
+  pub bytes : List ℕ
+  pub count : Option ℕ
+
+-- the row of a message, as it is shown
+abbrev pub shown_row : ShownMessage → List ℕ
+shown_row shown =
+    message_front shown.linked shown.origin shown.is shown.place ++ cell_front shown.d ++ shown.words
+    ++ functional_word shown.place.is_functional ++ shown.bytes ++ note_text shown.is shown.place shown.count
+    ++ cell_end shown.d arrow.Headed
+
 -- the full row of a message that rules have left, where `origin` is the time of the first frame of the two sides
 abbrev pub message_row : List RuleValue → ℕ → MessageRole → Dir → MessagePlace → List ℕ → List ℕ
-message_row rules origin is d place bytes =
-    message_front true origin is place ++ cell_front d ++ role_words is d bytes ++ data_text rules bytes
-    ++ note_text is place (known_length rules bytes) ++ cell_end d arrow.Headed
+message_row rules origin is d place bytes = shown_row (record {
+  linked = true;
+  origin = origin;
+  is = is;
+  d = d;
+  place = place;
+  words = role_words is d bytes;
+  bytes = data_text rules bytes;
+  count = known_length rules bytes;
+})

@@ -18,25 +18,33 @@ use Rattle.direction.specs.declared.Dir.TheVariants as dir
 use Rattle.isotp_pdu.specs.declared.PduFault.TheVariants as pdu
 use Rattle.isotp_receive.specs.declared.event.Cause.TheVariants as cause
 use Rattle.isotp_receive.specs.declared.event.Reason.TheVariants as reason
-use Rattle.trace_report.specs.declared.row.Arrow.TheVariants as arrow
+use Rattle.trace_report.specs.declared.cells.Arrow.TheVariants as arrow
 use Rattle.trace_report.specs.declared.row.Missing.{Missing}
 use Rattle.trace_report.specs.declared.row.Missing.TheVariants as missing
+use Rattle.trace_report.specs.declared.row.Silence.{Silence}
+use Rattle.trace_report.specs.declared.row.Silence.TheVariants.{Suppressed, ToAllUnits, Unanswered}
 
--- what stands in front of the row of an item without an answer, which asked for no positive one or did
-abbrev pub no_answer_front : ℕ → Bool → List ℕ
-no_answer_front number silent =
-    row_front (record { class = if silent then codes "p" else codes "m"; target = None; item = item_repeated number; lines = []; time = [] })
+-- the class of the row of an item without an answer: it stands out where one was due
+abbrev pub no_answer_class : Silence → List ℕ
+no_answer_class Suppressed = codes "p"
+no_answer_class ToAllUnits = codes "p"
+no_answer_class Unanswered = codes "m"
 
--- an item without an answer, which asked for no positive one or did, in words
-abbrev pub no_answer_words : ℕ → Bool → List ℕ
-no_answer_words number silent =
-    if silent then codes "<b>silent</b> <i>item " ++ decimal number ++ codes " asked for no positive answer</i>"
-    else codes "<b>no answer</b> <i>to item " ++ decimal number ++ codes "</i>"
+-- what stands in front of that row
+abbrev pub no_answer_front : ℕ → Silence → List ℕ
+no_answer_front number silence =
+    row_front (record { class = no_answer_class silence; target = None; item = item_repeated number; lines = []; time = [] })
 
--- the row of an item without an answer, which asked for no positive one or did
-abbrev pub no_answer_row : ℕ → Bool → List ℕ
-no_answer_row number silent =
-    no_answer_front number silent ++ cell_front dir.Unit ++ no_answer_words number silent ++ cell_end dir.Unit arrow.Barred
+-- an item without an answer, in words
+abbrev pub no_answer_words : ℕ → Silence → List ℕ
+no_answer_words number Suppressed = codes "<b>silent</b> <i>item " ++ decimal number ++ codes " asked for no positive answer</i>"
+no_answer_words number ToAllUnits = codes "<b>no answer</b> <i>to item " ++ decimal number ++ codes ", which went to all units</i>"
+no_answer_words number Unanswered = codes "<b>no answer</b> <i>to item " ++ decimal number ++ codes "</i>"
+
+-- the row of an item without an answer
+abbrev pub no_answer_row : ℕ → Silence → List ℕ
+no_answer_row number silence =
+    no_answer_front number silence ++ cell_front dir.Unit ++ no_answer_words number silence ++ cell_end dir.Unit arrow.Barred
 
 -- where a frame stands, in a row to which links lead or not
 abbrev pub frame_front : Bool → ℕ → FramePlace → List ℕ
@@ -50,24 +58,30 @@ frame_front linked origin place = row_front (record {
 
 -- why a frame has no layout, for a reader who knows no ISO 15765-2
 abbrev pub layout_fault_words : PduFault → List ℕ
-layout_fault_words pdu.Remote = codes " <i>it carries no data</i>"
-layout_fault_words pdu.FrameLength = codes " <i>no CAN frame has this many bytes</i>"
-layout_fault_words pdu.Empty = codes " <i>it has no byte</i>"
-layout_fault_words pdu.UnknownKind = codes " <i>its first byte is of no kind of ISO-TP frame</i>"
-layout_fault_words pdu.SingleLength = codes " <i>its length does not fit the length that it tells</i>"
-layout_fault_words pdu.FirstLength = codes " <i>its length, or the one that it announces, is that of no first frame</i>"
-layout_fault_words pdu.FlowShort = codes " <i>it has fewer than 3 bytes</i>"
-layout_fault_words pdu.FlowStatus = codes " <i>its status is none of continue, wait and overflow</i>"
+layout_fault_words pdu.Remote = codes "it carries no data"
+layout_fault_words pdu.FrameLength = codes "no CAN frame has this many bytes"
+layout_fault_words pdu.Empty = codes "it has no byte"
+layout_fault_words pdu.UnknownKind = codes "its first byte is of no kind of ISO-TP frame"
+layout_fault_words pdu.SingleLength = codes "its length does not fit the length that it tells"
+layout_fault_words pdu.FirstLength = codes "its length, or the one that it announces, is that of no first frame"
+layout_fault_words pdu.FlowShort = codes "it has fewer than 3 bytes"
+layout_fault_words pdu.FlowStatus = codes "its status is none of continue, wait and overflow"
 
--- why a frame was dropped, for a reader who knows no ISO 15765-2; where it ended a reception too, the row of that says it
+-- words beside what a row tells
+abbrev pub aside : List ℕ → List ℕ
+aside words = codes " <i>" ++ words ++ codes "</i>"
+
+-- why a frame was dropped, for a reader who knows no ISO 15765-2; where it ended a reception too, the row of that says
+-- it
 abbrev pub reason_words : Reason → List ℕ
-reason_words (reason.Pdu fault) = layout_fault_words fault
-reason_words reason.FlowUnexpected = codes " <i>the other side was sending nothing that it could be for</i>"
-reason_words reason.NextUnexpected = codes " <i>no message was under way that it goes on with</i>"
+reason_words (reason.Pdu fault) = aside (layout_fault_words fault)
+reason_words reason.FlowUnexpected = aside (codes "the other side was sending nothing that it could be for")
+reason_words reason.NextUnexpected = aside (codes "no message was under way that it goes on with")
 reason_words reason.NextLate = []
 reason_words (reason.NextSequence expected found) = []
 reason_words reason.NextLength = []
-reason_words (reason.TooLong announced) = codes " <i>more than the limit of " ++ decimal MESSAGE_LIMIT ++ codes "</i>"
+reason_words reason.FunctionalNotSingle = aside (codes "what is sent to all units is one single frame")
+reason_words (reason.TooLong announced) = aside (codes "more than the limit of " ++ decimal MESSAGE_LIMIT)
 
 -- why a reception ended, for a reader who knows no ISO 15765-2
 abbrev pub cause_words : Cause → List ℕ
@@ -114,7 +128,7 @@ unfinished_row linked d line len = end_front linked d ++ cell_front d ++ unfinis
 
 -- the row of what is missing, to which links lead or not; to that of a dropped frame they lead only where it says so
 abbrev pub missing_row : Bool → ℕ → Missing → List ℕ
-missing_row linked origin (missing.NoAnswer number silent) = no_answer_row number silent
+missing_row linked origin (missing.NoAnswer number silence) = no_answer_row number silence
 missing_row linked origin (missing.Dropped place d own why) = dropped_row (linked && own) origin place d why
 missing_row linked origin (missing.Ended place end) = ended_row linked origin place end
 missing_row linked origin (missing.Unfinished d line len) = unfinished_row linked d line len

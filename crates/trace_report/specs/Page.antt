@@ -49,16 +49,19 @@ frame_text title limit rules T e =
 abbrev pub all_rows : ℕ → List RuleValue → List Entry → List RowValue
 all_rows limit rules T = rows_of limit rules T ++ end_rows limit rules T
 
+-- what stands behind the blocks of rows, with this verdict, of a log of which this was found
+abbrev pub behind_blocks : FindingsValue → List ℕ → List ℕ
+behind_blocks found verdict = codes "</main>\n" ++ rules_text found.rules found.spoken ++ verdict ++ help_text
+
 -- the end of a page, behind rows that left these blocks, of a log of which this was found
 abbrev pub page_end : Blocks → FindingsValue → List ℕ
-page_end blocks found =
-    block_end blocks.count ++ codes "</main>\n" ++ rules_text found.rules found.spoken ++ verdict_text found ++ help_text
+page_end blocks found = block_end blocks.count ++ behind_blocks found (verdict_text found)
 
--- the end of the page of a log that is refused, behind rows that left these blocks, by what was found of the lines before
+-- the end of the page of a log that is refused, behind rows that left these blocks, by what was found of the lines
+-- before
 abbrev pub refused_end : Fault → Option RefusalCause → Blocks → FindingsValue → List ℕ
 refused_end why cause blocks found =
-    block_end blocks.count ++ stop_line why ++ codes "</main>\n" ++ rules_text found.rules found.spoken
-    ++ refused_verdict why cause found ++ help_text
+    block_end blocks.count ++ stop_line why ++ behind_blocks found (refused_verdict why cause found)
 
 -- what was found under rules of a log with these rows, this trace and these counts
 abbrev pub findings_of : ℕ → List RuleValue → List RowValue → List Entry → Summary → FindingsValue

@@ -1,5 +1,5 @@
--- What a message is to its item, by what becomes of it; and what is asked of that: whether the message is a request, an answer,
--- or begins an item, and what it replies to.
+-- What a message is to its item, by what becomes of it; and what is asked of that: whether the message is a request, an
+-- answer, or begins an item, and what it replies to.
 use Rattle.std.specs.Prelude.{ℕ, Bool, true, false, List, Option, Some, None, if◌then◌else◌}
 use Rattle.direction.specs.declared.Dir.{Dir}
 use Rattle.trace_report.specs.declared.roles.MessageRole.{MessageRole}

@@ -1,20 +1,22 @@
--- The rows of a report: what each tells, what stands in it before its cell of the chart, and that cell. A row is one line of HTML:
--- the number of its item, the lines of the log, the time since the first frame of the two sides, and a cell, in which words stand at
--- the sender's side and an arrow fills the rest. End tags are left out where HTML lets one.
+-- The rows of a report: what each tells, what stands in it before its cell of the chart, and that cell. A row is one
+-- line of HTML: the number of its item, the lines of the log, the time since the first frame of the two sides, and a
+-- cell, in which words stand at the sender's side and an arrow fills the rest. End tags are left out where HTML lets
+-- one.
 use Rattle.std.specs.Prelude.{ℕ, Bool, List, [], ◌++◌, codes, Option, Some, None}
 use Rattle.std.specs.Fmt.{decimal}
 use Rattle.direction.specs.declared.Dir.{Dir}
 use Rattle.isotp_receive.specs.declared.event.Ended.{Ended}
 use Rattle.isotp_receive.specs.declared.event.Reason.{Reason}
 use Rattle.trace_canon.specs.declared.reception_starts.FramePlace.{FramePlace}
-use Rattle.trace_report.specs.declared.row.Arrow.{Arrow}
+use Rattle.trace_report.specs.declared.cells.Arrow.{Arrow}
 use Rattle.trace_report.specs.declared.row.MessagePlace.{MessagePlace}
 use Rattle.trace_report.specs.declared.row.Missing.{Missing}
 use Rattle.trace_report.specs.declared.row.SessionRow.{SessionRow}
+use Rattle.trace_report.specs.declared.row.Silence.{Silence}
 use Rattle.trace_report.specs.declared.roles.MessageRole.{MessageRole}
 use Rattle.trace_report.specs.declared.targets.LinkTarget.{LinkTarget}
 use Rattle.trace_report.specs.Targets.{identifier, side_text}
-use Rattle.trace_report.specs.declared.row.Arrow.TheVariants as arrow
+use Rattle.trace_report.specs.declared.cells.Arrow.TheVariants as arrow
 use Rattle.trace_report.specs.declared.row.Missing.TheVariants as missing
 use Rattle.trace_report.specs.declared.row.SessionRow.TheVariants as row
 
@@ -22,19 +24,20 @@ use Rattle.trace_report.specs.declared.row.SessionRow.TheVariants as row
 pub data RowValue : Type 0 where
   -- a message: what it is to its item, who sent it, where it stands, and its bytes
   message : MessageRole → Dir → MessagePlace → List ℕ → RowValue
-  -- the item of this number has no answer; its request asked for no positive one, or did not
-  no_answer : ℕ → Bool → RowValue
-  -- the frame in this place, which this side sent, was dropped; links lead to this row, or the row before is of the same
-  -- frame, and they lead there
+  -- the item of this number has no answer, and why
+  no_answer : ℕ → Silence → RowValue
+  -- the frame in this place, which this side sent, was dropped; links lead to this row, or the row before is of the
+  -- same frame, and they lead there
   dropped : FramePlace → Dir → Bool → Reason → RowValue
   -- the frame in this place ended a reception
   ended : FramePlace → Ended → RowValue
-  -- at the end of the log a reception stands: its direction, the line of its first frame, and the bytes that this announced
+  -- at the end of the log a reception stands: its direction, the line of its first frame, and the bytes that this
+  -- announced
   unfinished : Dir → ℕ → ℕ → RowValue
 
 -- what a row tells that is missing, as a row
 abbrev pub missing_of : Missing → RowValue
-missing_of (missing.NoAnswer number silent) = no_answer number silent
+missing_of (missing.NoAnswer number silence) = no_answer number silence
 missing_of (missing.Dropped place d linked why) = dropped place d linked why
 missing_of (missing.Ended place end) = ended place end
 missing_of (missing.Unfinished d line len) = unfinished d line len
@@ -44,8 +47,8 @@ abbrev pub row_of : SessionRow → RowValue
 row_of (row.Message sent lent) = message sent.role sent.dir sent.place lent.now
 row_of (row.Missing what) = missing_of what
 
--- What stands in a row before its cell of the chart: the class of the style by which it is shown; the place that it is, if links
--- lead to it; its first cell, that of its item; and what stands in the next two cells, its lines and its time.
+-- What stands in a row before its cell of the chart: the class of the style by which it is shown; the place that it is,
+-- if links lead to it; its first cell, that of its item; and what stands in the next two cells, its lines and its time.
 pub record RowFrontValue : Type 0 where
   pub class : List ℕ
   pub target : Option LinkTarget

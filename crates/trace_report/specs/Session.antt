@@ -8,8 +8,8 @@ use Rattle.trace_report.specs.Page.{all_rows, first_time, last_time}
 use Rattle.trace_report.specs.Rows.{RowValue}
 use Rattle.trace_run.specs.Spoken.{spoken_counts}
 
--- What a log says: its rows, its counts, the times of its first frame and of its last one, the rules that it is under, and of
--- how many of its messages each spoke.
+-- What a log says: its rows, its counts, the times of its first frame and of its last one, the rules that it is under,
+-- and of how many of its messages each spoke.
 pub record SessionValue : Type 0 where
   pub rows : List RowValue
   pub summary : Summary

@@ -6,6 +6,8 @@ use Rattle.trace_report.specs.Rows.{RowValue, message, no_answer, dropped, ended
 use Rattle.trace_report.specs.declared.tally.SortCounts.{SortCounts}
 use Rattle.trace_report.specs.declared.roles.MessageRole.{MessageRole}
 use Rattle.trace_report.specs.declared.roles.MessageRole.TheVariants as role
+use Rattle.trace_report.specs.declared.row.Silence.{Silence}
+use Rattle.trace_report.specs.declared.row.Silence.TheVariants.{Suppressed, ToAllUnits, Unanswered}
 use Rattle.trace_report.specs.declared.sorts.Sort.{Sort}
 use Rattle.trace_report.specs.declared.sorts.Sort.TheVariants as sort
 use Rattle.trace_report.specs.declared.tally.FirstTargets.{FirstTargets}
@@ -31,6 +33,7 @@ needs_attention sort.Pendings = false
 needs_attention sort.KeepAlives = false
 needs_attention sort.Strays = true
 needs_attention sort.Unanswered = true
+needs_attention sort.ToAllUnits = false
 needs_attention sort.Silent = false
 needs_attention sort.Dropped = true
 needs_attention sort.Ended = true
@@ -40,15 +43,16 @@ needs_attention sort.Unfinished = true
 abbrev pub message_needs_attention : MessageRole → Bool
 message_needs_attention is = needs_attention (sort_of_role is)
 
--- the sort of the row of an item without an answer, which asked for no positive one or did
-abbrev pub sort_of_silence : Bool → Sort
-sort_of_silence true = sort.Silent
-sort_of_silence false = sort.Unanswered
+-- the sort of the row of an item without an answer
+abbrev pub sort_of_silence : Silence → Sort
+sort_of_silence Suppressed = sort.Silent
+sort_of_silence ToAllUnits = sort.ToAllUnits
+sort_of_silence Unanswered = sort.Unanswered
 
 -- the sort of a row
 abbrev pub sort_of : RowValue → Sort
 sort_of (message is d place bytes) = sort_of_role is
-sort_of (no_answer number silent) = sort_of_silence silent
+sort_of (no_answer number silence) = sort_of_silence silence
 sort_of (dropped place d linked why) = sort.Dropped
 sort_of (ended place end) = sort.Ended
 sort_of (unfinished d line len) = sort.Unfinished
@@ -66,6 +70,7 @@ rank sort.Silent = 7
 rank sort.Dropped = 8
 rank sort.Ended = 9
 rank sort.Unfinished = 10
+rank sort.ToAllUnits = 11
 
 -- the row is of this sort
 abbrev pub is_of : Sort → RowValue → Bool
@@ -74,7 +79,7 @@ is_of kind row = rank kind == rank (sort_of row)
 -- where a link to a row leads: to its item or to its line, or to what stands of its side
 abbrev pub target_of : RowValue → LinkTarget
 target_of (message is d place bytes) = target.Item place.item
-target_of (no_answer number silent) = target.Item number
+target_of (no_answer number silence) = target.Item number
 target_of (dropped place d linked why) = target.Line place.line
 target_of (ended place end) = target.Line place.line
 target_of (unfinished d line len) = target.Side d
@@ -102,6 +107,7 @@ counts_in rows = record {
   positives = count_of sort.Positives rows;
   negatives = count_of sort.Negatives rows;
   unanswered = count_of sort.Unanswered rows;
+  to_all_units = count_of sort.ToAllUnits rows;
   silent = count_of sort.Silent rows;
   pendings = count_of sort.Pendings rows;
   keep_alives = count_of sort.KeepAlives rows;
@@ -122,6 +128,7 @@ first_targets rows = record {
   strays = first_of sort.Strays rows;
 }
 
--- all that the verdict of a report has of its rows: how many there are of each sort, and where links to the first of them lead
+-- all that the verdict of a report has of its rows: how many there are of each sort, and where links to the first of
+-- them lead
 abbrev pub tally_of : List RowValue → Tally
 tally_of rows = record { counts = counts_in rows; first = first_targets rows }

@@ -1,5 +1,5 @@
--- The verdict of a report: whether the recording is clean, what needs attention, and all counts. It is known at the end,
--- and written there; the style shows it first.
+-- The verdict of a report: whether the recording is clean, what needs attention, and all counts. It is known at the
+-- end, and written there; the style shows it first.
 use Rattle.std.specs.Fmt.{decimal}
 use Rattle.std.specs.Prelude.{ℕ, ◌==◌, ◌&&◌, ◌||◌, not, Bool, List, [], ◌∷◌, ◌++◌, codes, Option, if◌then◌else◌}
 use Rattle.trace_text.specs.Words.{stamp_text}
@@ -31,13 +31,13 @@ abbrev pub span_of : ℕ → ℕ → ℕ → List ℕ
 span_of frames first last = if frames == 0 then [] else span_text first last
 
 -- the head of a verdict, up to its words: the class of the style that colours it, and the sign before its words
-abbrev pub verdict_head : List ℕ → List ℕ → List ℕ
-verdict_head class sign = codes "<section id=\"verdict\" class=\"" ++ class ++ codes "\">\n<h2><span aria-hidden=\"true\">" ++ sign ++ codes "</span> "
+abbrev pub verdict_front : List ℕ → List ℕ → List ℕ
+verdict_front class sign = codes "<section id=\"verdict\" class=\"" ++ class ++ codes "\">\n<h2><span aria-hidden=\"true\">" ++ sign ++ codes "</span> "
 
 -- the heading of a clean recording: nothing of the two sides is known to be missing
 abbrev pub clean_verdict : List ℕ
 clean_verdict =
-    verdict_head (codes "good") (codes "&#10003;") ++ codes "The recording is clean</h2>\n"
+    verdict_front (codes "good") (codes "&#10003;") ++ codes "The recording is clean</h2>\n"
     ++ codes "<p>No frame of the two identifiers was dropped, and no message is in part."
 
 -- a page calls the recording clean: it is clean, and its sides don't look exchanged
@@ -64,11 +64,15 @@ lacking_words summary =
 abbrev pub strict_words : Summary → List ℕ
 strict_words summary = lost_words summary ++ lacking_words summary
 
+-- the options that say which identifiers are meant
+abbrev pub options_words : List ℕ
+options_words = codes "<code>--tester</code> and <code>--unit</code>."
+
 -- what it means that no frame is of the two sides
 abbrev pub empty_words : Bool → List ℕ
 empty_words has_no_line =
     if has_no_line then codes " The log is empty: it has no line."
-    else codes " Either no line has a frame, or other identifiers are meant: see <code>--tester</code> and <code>--unit</code>."
+    else codes " Either no line has a frame, or other identifiers are meant: see " ++ options_words
 
 -- the words of a log without rules, and those of what rules leave of one
 abbrev pub words_under : List RuleValue → List ℕ → List ℕ → List ℕ
@@ -79,7 +83,7 @@ words_under (rule ∷ rules) whole left = left
 abbrev pub exchanged_words : List RuleValue → Summary → List ℕ
 exchanged_words rules summary =
     clause (not (is_clean summary)) (codes " ") ++ words_under rules (codes "No message is a request") (codes "Of what the rules leave, no message is a request")
-    ++ codes ": the tester sent responses, and the unit messages that are none. See <code>--tester</code> and <code>--unit</code>."
+    ++ codes ": the tester sent responses, and the unit messages that are none. See " ++ options_words
 
 -- what it means for the messages of a page that a recording is not called clean
 abbrev pub meaning_words : List RuleValue → Summary → List ℕ
@@ -93,17 +97,17 @@ meaning_words rules summary =
 abbrev pub unclean_reasons : List RuleValue → Summary → List ℕ
 unclean_reasons rules summary = clause (not (is_clean summary)) (strict_words summary) ++ meaning_words rules summary
 
--- the words of the heading of a log that has no frame of the two sides, or whose sides look exchanged, or that is not clean
+-- the words of the heading of a log that has no frame of the two sides, or whose sides look exchanged, or that is not
+-- clean
 abbrev pub start_words : Summary → List ℕ
 start_words summary =
     if summary.frames == 0 then codes "No frame of the tester or the unit"
-    else if summary.looks_exchanged
-    then (if is_clean summary then codes "Tester and unit look exchanged" else codes "The recording is not clean, and tester and unit look exchanged")
-    else codes "The recording is not clean"
+    else if is_clean summary then codes "Tester and unit look exchanged"
+    else codes "The recording is not clean" ++ clause summary.looks_exchanged (codes ", and tester and unit look exchanged")
 
 -- that heading
 abbrev pub unclean_heading : Summary → List ℕ
-unclean_heading summary = verdict_head (codes "warn") (codes "!") ++ start_words summary ++ codes "</h2>\n<p>"
+unclean_heading summary = verdict_front (codes "warn") (codes "!") ++ start_words summary ++ codes "</h2>\n<p>"
 
 -- the heading of a recording that is not called clean, and each reason
 abbrev pub unclean_verdict : List RuleValue → Summary → List ℕ
@@ -126,8 +130,8 @@ answers_text rules asked refused missing =
 abbrev pub answers_of : List RuleValue → SortCounts → List ℕ
 answers_of rules counts = answers_text rules counts.requests counts.negatives counts.unanswered
 
--- What was found of a log: the rules that it is under, of how many messages each spoke, the tally of its rows, its counts, and
--- the times of its first frame and of its last one.
+-- What was found of a log: the rules that it is under, of how many messages each spoke, the tally of its rows, its
+-- counts, and the times of its first frame and of its last one.
 pub record FindingsValue : Type 0 where
   pub rules : List RuleValue
   pub spoken : List ℕ
@@ -169,7 +173,7 @@ stop_line why = codes "<p class=\"stop\"><b>Refused here:</b> " ++ refusal_words
 -- the heading of the verdict of a log that is refused, its sentences, and the cause, where there is one
 abbrev pub refused_heading : Fault → Option RefusalCause → List ℕ
 refused_heading why cause =
-    verdict_head (codes "bad") (codes "&#10005;") ++ codes "The log is refused</h2>\n<p><em>"
+    verdict_front (codes "bad") (codes "&#10005;") ++ codes "The log is refused</h2>\n<p><em>"
     ++ refusal_words why
     ++ codes ".</em> Below is what the lines before that say; what comes after it is not read, and the counts are of the lines before.</p>\n"
     ++ cause_line cause

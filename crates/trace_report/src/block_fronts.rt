@@ -3,7 +3,7 @@
 use crate::blocks::{Blocks, OPEN_BLOCKS, begins_block, begins_body, begins_exchange};
 use crate::durations::Seconds;
 use crate::row::{MessagePlace, Missing, SessionRow};
-use text_parts::{Either, Part, When, say};
+use text_parts::{Part, When, say};
 use trace_canon::reception_starts::FramePlace;
 use trace_io::TextSink;
 use trace_text::Number;
@@ -69,10 +69,10 @@ impl<'a> Part for BlockFront<'a> {
             out,
             (
                 BlockEnd(before),
-                Either(
-                    before < OPEN_BLOCKS,
-                    "<details class=\"b\" open>\n<summary>",
-                    "<details class=\"b\">\n<summary>",
+                (
+                    "<details class=\"b\"",
+                    When(before < OPEN_BLOCKS, " open"),
+                    ">\n<summary>",
                 ),
                 BlockTitle(origin, row),
                 ("</summary>\n", ChartHead),
@@ -146,14 +146,7 @@ impl Part for MessageTitle {
         let MessageTitle(origin, place) = self;
         say(
             out,
-            (
-                ("From item ", Number(place.item)),
-                ", line ",
-                Number(place.first.line),
-                ", ",
-                Seconds(origin, place.first.micros),
-                " s",
-            ),
+            (FromItem(place.item), ", ", LineAndTime(origin, place.first)),
         );
     }
 }
@@ -171,31 +164,45 @@ impl Part for MissingTitle {
     fn say<S: TextSink>(self, out: &mut S) {
         let MissingTitle(origin, missing) = self;
         match missing {
-            Missing::NoAnswer { number, .. } => say(out, ("From item ", Number(number))),
+            Missing::NoAnswer { number, .. } => say(out, FromItem(number)),
             Missing::Dropped { place, .. } | Missing::Ended { place, .. } => say(
                 out,
-                FromPlace(origin, place),
+                ("From ", LineAndTime(origin, place)),
             ),
             Missing::Unfinished { .. } => say(out, "At the end of the log"),
         }
     }
 }
 
-/// The title of a block that begins with the row of a frame.
+/// The title of a block that begins with a row of the item of this number.
 #[derive(Clone, Copy)]
-struct FromPlace(u64, FramePlace);
+struct FromItem(u64);
 
-impl Part for FromPlace {
-    ghost use Rattle.trace_report.specs.Blocks.{from_place};
+impl Part for FromItem {
+    ghost use Rattle.trace_report.specs.Blocks.{item_title};
 
-    ghost text = { λ title. from_place title.0 title.1 };
+    ghost text = { λ title. item_title title.0 };
 
     fn say<S: TextSink>(self, out: &mut S) {
-        let FromPlace(origin, place) = self;
+        say(out, ("From item ", Number(self.0)));
+    }
+}
+
+/// Where a frame stands: its line, and its time.
+#[derive(Clone, Copy)]
+struct LineAndTime(u64, FramePlace);
+
+impl Part for LineAndTime {
+    ghost use Rattle.trace_report.specs.Blocks.{line_and_time};
+
+    ghost text = { λ at. line_and_time at.0 at.1 };
+
+    fn say<S: TextSink>(self, out: &mut S) {
+        let LineAndTime(origin, place) = self;
         say(
             out,
             (
-                "From line ",
+                "line ",
                 Number(place.line),
                 ", ",
                 Seconds(origin, place.micros),

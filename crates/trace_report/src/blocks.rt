@@ -1,4 +1,5 @@
 //! The blocks in which the rows of a report stand.
+
 ghost use Rattle.std.specs.Prelude.{◌≡◌, ◌^◌, ◌-◌, ◌<◌, ◌||◌};
 ghost use Rattle.trace_report.specs.Blocks as Spec;
 ghost use Rattle.trace_report.specs.Rows.{row_of};
@@ -47,7 +48,8 @@ pub(crate) fn begins_block(exchange: bool, blocks: Blocks) -> bool
     blocks.count == 0 || blocks.rows >= LARGEST_BLOCK || (exchange && blocks.rows >= FULL_BLOCK)
 }
 
-/// Whether a body of the table begins before a row: each exchange has one, and each block.
+/// Whether a body of the table begins before a row: each exchange has one, and each block. A call of its own, so that a
+/// proof can name the test.
 pub(crate) fn begins_body(block: bool, exchange: bool) -> bool
     ensures { result ≡ (block || exchange) }
 {

@@ -1,20 +1,22 @@
 //! The rows of messages in blocks that are folded at first: one line of words each, without a shape.
+
 ghost use Rattle.trace_report.specs.BriefRows.{brief_message};
 
 use crate::message_rows::{MessageFront, say_message_row};
 use crate::message_words::After;
 use crate::roles::MessageRole;
-use crate::row::SentMessage;
+use crate::row::{MessagePlace, SentMessage};
 use crate::sorts::message_needs_attention;
 use crate::targets::Side;
 use shown_bytes::BriefData;
-use text_parts::{Part, say};
+use text_parts::{Part, When, say};
 use trace_io::TextSink;
 use trace_text::ServiceName;
 use uds_message::sid;
 use uds_rules::Rules;
 
-/// Says the row of a message that rules have left in a block of brief rows: what needs attention has its full row there, too.
+/// Says the row of a message that rules have left in a block of brief rows: what needs attention has its full row
+/// there, too.
 pub(crate) fn say_brief_message<S: TextSink>(
     rules: &Rules,
     origin: u64,
@@ -31,7 +33,7 @@ pub(crate) fn say_brief_message<S: TextSink>(
         let words = BriefWords {
             rules,
             role,
-            first: place.first.micros,
+            place,
             message,
         };
         say(
@@ -58,27 +60,35 @@ pub(crate) fn say_brief_message<S: TextSink>(
 struct BriefWords<'a> {
     rules: &'a Rules,
     role: MessageRole,
-    first: u64,
+    place: MessagePlace,
     message: &'a [u8],
 }
 
 impl<'a> Part for BriefWords<'a> {
     ghost use Rattle.trace_report.specs.BriefRows.{brief_words};
 
-    ghost text = { λ words. brief_words words.rules.now words.role words.first words.message.now };
+    ghost text = { λ words. brief_words words.rules.now words.role words.place words.message.now };
 
     fn say<S: TextSink>(self, out: &mut S) {
         let BriefWords {
             rules,
             role,
-            first,
+            place,
             message,
         } = self;
         let data = BriefData { rules, message };
+        let functional = When(place.is_functional, "functional ");
+        let first = place.first.micros;
         match role {
             MessageRole::Request => say(
                 out,
-                (ServiceName(sid(message)), " request ", data, " &#8594;"),
+                (
+                    ServiceName(sid(message)),
+                    " request ",
+                    functional,
+                    data,
+                    " &#8594;",
+                ),
             ),
             MessageRole::Positive { asked } => say(
                 out,
@@ -88,7 +98,7 @@ impl<'a> Part for BriefWords<'a> {
                 out,
                 ("&#8592; pending ", data, " ", After(asked, first)),
             ),
-            MessageRole::KeepAlive => say(out, ("keep-alive ", data, " &#8594;")),
+            MessageRole::KeepAlive => say(out, ("keep-alive ", functional, data, " &#8594;")),
             MessageRole::Negative { .. } | MessageRole::Stray => {}
         }
     }

@@ -1,4 +1,5 @@
 //! Why a log is refused beyond the place, as a hint and a page say it.
+
 ghost use Rattle.std.specs.Prelude.{◌≡◌};
 ghost use Rattle.trace_report.specs.Causes.{row_value};
 ghost use Rattle.trace_report.specs.Causes as Spec;
@@ -53,8 +54,8 @@ pub fn cause_of(why: Fault, max_bytes: u64, source: Glimpse<'_>) -> Option<Refus
     }
 }
 
-/// The cause of a log that is refused at this place. Nothing is read behind a refused byte: so where all of the log was,
-/// the place is behind its last one.
+/// The cause of a log that is refused at this place. Nothing is read behind a refused byte: so where all of the log
+/// was, the place is behind its last one.
 fn cause_of_place(line: u64, column: u32, source: Glimpse<'_>) -> Option<RefusalCause>
     ensures { result ≡ Spec.cause_of_place (glimpse_value source.entry) line column }
 {
@@ -139,16 +140,15 @@ impl Part for CauseLine {
     ghost text = { λ line. cause_line line.0 };
 
     fn say<S: TextSink>(self, out: &mut S) {
-        match self.0 {
-            Some(cause) => say(
+        if let Some(cause) = self.0 {
+            say(
                 out,
                 (
                     "<p><b>Cause:</b> ",
                     RefusalCauseText(cause, "this log"),
                     ".</p>\n",
                 ),
-            ),
-            None => {}
+            );
         }
     }
 }
@@ -204,9 +204,8 @@ impl Part for NumberOf {
     ghost text = { λ number. number_text number.0 };
 
     fn say<S: TextSink>(self, out: &mut S) {
-        match self.0 {
-            Some(number) => say(out, Number(number)),
-            None => {}
+        if let Some(number) = self.0 {
+            say(out, Number(number));
         }
     }
 }

@@ -1,12 +1,17 @@
 //! The cells of a row. In that of the chart words stand at the sender's side, and an arrow fills the rest.
-use crate::row::Arrow;
+
 use crate::targets::{LinkTarget, Side};
 use direction::Dir;
 use text_parts::{Part, say};
 use trace_io::TextSink;
 
-/// What stands in a row before its cell of the chart: the class of the style by which it is shown; the place that it is, if
-/// links lead to it; its first cell, that of its item; and what stands in the next two cells, its lines and its time.
+/// What stands in a row before its cell of the chart: the class of the style by which it is shown; the place that it
+/// is, if links lead to it; its first cell, that of its item; and what stands in the next two cells, its lines and its
+/// time.
+///
+/// A column more is a field here and in `row_front`; what stands in it, where `message_rows` and `missing_rows` make a
+/// front; its name in both heads, `ChartHead` here and `PairChartHead` of `pair_words`; and `nth-child` in
+/// `style/common.css`, which counts columns.
 #[derive(Clone, Copy)]
 pub(crate) struct RowFront<C, I, L, T> {
     pub class: C,
@@ -71,7 +76,7 @@ impl Part for TagEnd {
 
 /// A cell of the chart, up to its words.
 #[derive(Clone, Copy)]
-pub struct CellFront(pub Dir);
+pub(crate) struct CellFront(pub Dir);
 
 impl Part for CellFront {
     ghost use Rattle.trace_report.specs.Rows.{cell_front};
@@ -85,7 +90,7 @@ impl Part for CellFront {
 
 /// The arrow, which is no smaller than this, and the end of the row.
 #[derive(Clone, Copy)]
-pub struct CellEnd(pub Dir, pub Arrow);
+pub(crate) struct CellEnd(pub Dir, pub Arrow);
 
 impl Part for CellEnd {
     ghost use Rattle.trace_report.specs.Rows.{cell_end};
@@ -103,6 +108,17 @@ impl Part for CellEnd {
             ),
         );
     }
+}
+
+/// How an arrow of the chart ends.
+#[derive(Clone, Copy, Debug)]
+pub(crate) enum Arrow {
+    /// In a head: a message.
+    Headed,
+    /// In a cross: a frame that was dropped.
+    Crossed,
+    /// In a bar: what was cut short.
+    Barred,
 }
 
 /// The end of an arrow.

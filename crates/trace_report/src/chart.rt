@@ -1,7 +1,8 @@
 //! The chart of a page, as far as its rows were said.
+
 ghost use Rattle.std.specs.Prelude.{◌≡◌, ◌^◌, ◌<◌, ◌-◌, List, [], ◌∷◌, ◌++◌, length};
 ghost use Rattle.trace_report.specs.Blocks.{blocks_behind, blocks_of};
-ghost use Rattle.trace_report.specs.Chart.{message_text, row_text, rows_text};
+ghost use Rattle.trace_report.specs.Chart.{row_text, rows_text};
 ghost use Rattle.trace_report.specs.Rows.{RowValue, row_of};
 ghost use Rattle.trace_report.specs.proving.Following.{IsChartOf, row_if, rows_in};
 
@@ -11,7 +12,7 @@ use crate::brief_rows::say_brief_message;
 use crate::follower::NewRows;
 use crate::message_rows::say_message_row;
 use crate::missing_rows::say_missing_row;
-use crate::row::{SentMessage, SessionRow};
+use crate::row::SessionRow;
 use crate::tally::Tally;
 use text_parts::say;
 use trace_io::TextSink;
@@ -99,27 +100,13 @@ fn say_row<S: TextSink>(rules: &Rules, brief: bool, origin: u64, row: SessionRow
     ensures { S.says out.old (row_text rules.now brief origin (row_of row.entry)) out.new }
 {
     match row {
-        SessionRow::Message { sent, message } => say_message(
-            rules, brief, origin, sent, message, out,
-        ),
+        SessionRow::Message { sent, message } => {
+            if brief {
+                say_brief_message(rules, origin, sent, message, out);
+            } else {
+                say_message_row(rules, origin, sent, message, out);
+            }
+        }
         SessionRow::Missing(missing) => say_missing_row(true, origin, missing, out),
-    }
-}
-
-/// Says the row of a message, in a block of brief rows or in another.
-fn say_message<S: TextSink>(
-    rules: &Rules,
-    brief: bool,
-    origin: u64,
-    sent: SentMessage,
-    message: &[u8],
-    out: &mut S,
-)
-    ensures { S.says out.old (message_text rules.now brief origin sent.role sent.dir sent.place message.now) out.new }
-{
-    if brief {
-        say_brief_message(rules, origin, sent, message, out);
-    } else {
-        say_message_row(rules, origin, sent, message, out);
     }
 }

@@ -1,4 +1,5 @@
 //! The counts of a report.
+
 use crate::sorts::{Sort, needs_attention};
 use crate::tally::SortCounts;
 use text_parts::{Either, Part, When, say};
@@ -25,13 +26,24 @@ impl<'a> Part for Counts<'a> {
                     LogCount("lines", summary.lines),
                     LogCount("frames", summary.frames),
                     LogCount("messages", summary.messages),
-                    LeftOutCount(summary.left_out),
+                    When(
+                        summary.left_out != 0,
+                        LogCount("left out", summary.left_out),
+                    ),
                 ),
                 (
                     SortCount(Sort::Requests, "requests", counts.requests),
                     SortCount(Sort::Positives, "positive", counts.positives),
                     SortCount(Sort::Negatives, "negative", counts.negatives),
                     SortCount(Sort::Unanswered, "no answer", counts.unanswered),
+                    When(
+                        counts.to_all_units != 0,
+                        SortCount(
+                            Sort::ToAllUnits,
+                            "no answer (all units)",
+                            counts.to_all_units,
+                        ),
+                    ),
                     SortCount(Sort::Silent, "silent", counts.silent),
                 ),
                 (
@@ -70,22 +82,6 @@ impl Part for LogCount {
                 count,
             },
         );
-    }
-}
-
-/// How many messages of the log rules left out, where they left out one.
-#[derive(Clone, Copy)]
-struct LeftOutCount(u64);
-
-impl Part for LeftOutCount {
-    ghost use Rattle.trace_report.specs.Counts.{left_out_count};
-
-    ghost text = { λ count. left_out_count count.0 };
-
-    fn say<S: TextSink>(self, out: &mut S) {
-        if self.0 > 0 {
-            say(out, LogCount("left out", self.0));
-        }
     }
 }
 

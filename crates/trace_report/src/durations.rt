@@ -1,4 +1,5 @@
 //! Times as differences.
+
 use text_parts::{Part, When, say};
 use trace_io::TextSink;
 use trace_text::{Number, Stamp, ThreeDecimals};

@@ -1,4 +1,5 @@
 //! What a file looks like that is no log, by its first bytes.
+
 ghost use Rattle.std.specs.Prelude.{◌≡◌};
 ghost use Rattle.std.specs.List.{list_any};
 ghost use Rattle.trace_report.specs.Looks.{has_at, has_front, has_more_decimals, is_dated, is_table, is_told, lacks_stamp, look_of, look_told, text_look};
@@ -29,8 +30,8 @@ pub(crate) fn lacks_stamp(first: &[u8], line: u64, column: u32) -> bool
 fn has_more_decimals(first: &[u8], column: u32) -> bool
     ensures { result ≡ has_more_decimals first.now column }
 {
-    // The dot stands seven places before the refused byte, and columns count from 1: so it is the byte at the column less 8,
-    // and behind a bracket and a digit at least.
+    // The dot stands seven places before the refused byte, and columns count from 1: so it is the byte at the column
+    // less 8, and behind a bracket and a digit at least.
     column >= 10 && has_at(first, column as usize - 8, b'.')
 }
 

@@ -1,5 +1,6 @@
 //! The rows of a session, as its frames come.
-ghost use Rattle.std.specs.Prelude.{◌≡◌, List, [], ◌∷◌, ◌++◌};
+
+ghost use Rattle.std.specs.Prelude.{◌≡◌, Bool, List, [], ◌∷◌, ◌++◌};
 ghost use Rattle.direction.specs.Dir.{Message};
 ghost use Rattle.isotp_receive.specs.declared.TheConstants.{MESSAGE_LIMIT};
 ghost use Rattle.isotp_receive.specs.EventSeen.{seen_event};
@@ -13,17 +14,17 @@ ghost use Rattle.trace_canon.specs.FirstFrames.{place_of};
 ghost use Rattle.trace_report.specs.Events.{closing_before, closing_rows, end_rows, ended_rows, frame_rows};
 ghost use Rattle.trace_report.specs.Roles.{role_of_step as role_by};
 ghost use Rattle.trace_report.specs.Rows.{message as tells_message, row_of};
-ghost use Rattle.trace_report.specs.proving.Following.{Follows, IsSilent, IsWaiting, MeetsMessage, dropped_rows, row_if, rows_in, unfinished_if};
+ghost use Rattle.trace_report.specs.proving.Following.{Follows, IsSilence, IsWaiting, MeetsMessage, dropped_rows, row_if, rows_in, unfinished_if};
 
 use crate::extents::{MessageExtent, ReceptionExtents};
 use crate::roles::role_of_step;
-use crate::row::{MessagePlace, Missing, SentMessage, SessionRow};
+use crate::row::{MessagePlace, Missing, SentMessage, SessionRow, Silence};
+use crate::silences::silence_of;
 use direction::Dir;
 use isotp_receive::{Ended, Event, Pair, Verdict};
 use trace_canon::reception_starts::FramePlace;
 use trace_run::Seen;
 use uds_exchange::{Judged, Step};
-use uds_message::is_suppressing;
 
 /// The rows that a frame adds, or the end of a log: three at the most, in this order.
 #[derive(Clone, Copy, Debug)]
@@ -41,8 +42,8 @@ pub(crate) struct Follower {
     pub extents: ReceptionExtents,
     /// When the last request was complete.
     pub asked: u64,
-    /// Whether the last request asked for no positive answer.
-    pub silent: bool,
+    /// Why the last request has no answer, as long as it has none.
+    pub silence: Silence,
 }
 
 impl Follower {
@@ -54,7 +55,7 @@ impl Follower {
             waits: None,
             extents: ReceptionExtents::start(),
             asked: 0,
-            silent: false,
+            silence: Silence::Unanswered,
         }
     }
 
@@ -68,8 +69,8 @@ impl Follower {
             → Follows rules T self.old → rows_in result ≡ frame_rows MESSAGE_LIMIT rules T e }
     {
         let here = here_of(seen);
-        let extent = self.extents.take(here, seen.dir, seen.event);
-        let first = ended_row_of(here, seen.event.ended);
+        let extent = self.extents.take(here, seen.channel, seen.event);
+        let first = ended_rows(here, seen.event.ended);
         match seen.message {
             Some(message) => {
                 let (second, row) = self.take_message(here, message, extent);
@@ -82,7 +83,7 @@ impl Follower {
             None => NewRows {
                 first,
                 second: None,
-                third: dropped_row_of(here, seen.dir, seen.event),
+                third: dropped_rows(here, seen.channel.dir(), seen.event),
             },
         }
     }
@@ -97,16 +98,16 @@ impl Follower {
         extent: MessageExtent,
     ) -> (Option<SessionRow<'a>>, SessionRow<'a>)
         ensures extents { self.new.extents ≡ self.old.extents }
-        ensures next { (M : List Message) → IsJudgedAfter M message.entry → message.entry.item_number ≡ number_after M (sent message.entry)
-            → IsWaiting M self.old.waits → IsSilent M self.old.silent
-            → MeetsMessage M (sent message.entry) here self.old.asked self.new }
-        ensures closing { (M : List Message) → IsJudgedAfter M message.entry → IsWaiting M self.old.waits → IsSilent M self.old.silent
-            → row_if result.0 ≡ closing_before M (step_after M (sent message.entry)) }
+        ensures next { (M : List Message) (to_all : Bool) → IsJudgedAfter M message.entry → message.entry.item_number ≡ number_after M (sent message.entry)
+            → IsWaiting M self.old.waits → IsSilence M to_all self.old.silence
+            → MeetsMessage M (sent message.entry) here extent.is_functional self.old.asked to_all self.new }
+        ensures closing { (M : List Message) (to_all : Bool) → IsJudgedAfter M message.entry → IsWaiting M self.old.waits
+            → IsSilence M to_all self.old.silence → row_if result.0 ≡ closing_before M to_all (step_after M (sent message.entry)) }
         ensures row { (M : List Message) → IsJudgedAfter M message.entry → message.entry.item_number ≡ number_after M (sent message.entry)
             → row_of result.1 ≡ tells_message (role_by self.old.asked (step_after M (sent message.entry)) message.entry.dir message.entry.bytes.now) message.entry.dir
-            (record { item = number_after M (sent message.entry); first = extent.first; last = here; frames = extent.frames }) message.entry.bytes.now }
+            (record { item = number_after M (sent message.entry); first = extent.first; last = here; frames = extent.frames; is_functional = extent.is_functional }) message.entry.bytes.now }
     {
-        let waiting = closing_row_of(self.waits, self.silent);
+        let waiting = closing_rows(self.waits, self.silence);
         let sent = SentMessage {
             role: role_of_step(self.asked, message.step, message.dir, message.bytes),
             dir: message.dir,
@@ -115,6 +116,7 @@ impl Follower {
                 first: extent.first,
                 last: here,
                 frames: extent.frames,
+                is_functional: extent.is_functional,
             },
         };
         let row = SessionRow::Message {
@@ -125,7 +127,7 @@ impl Follower {
             Step::Request(_) => {
                 self.waits = Some(message.item_number);
                 self.asked = here.micros;
-                self.silent = is_suppressing(message.bytes);
+                self.silence = silence_of(extent.is_functional, message.bytes);
                 (waiting, row)
             }
             Step::Answer => {
@@ -142,19 +144,19 @@ impl Follower {
             → pair.now.receptions ≡ receptions_after MESSAGE_LIMIT T → rows_in result ≡ end_rows MESSAGE_LIMIT rules T }
     {
         NewRows {
-            first: unfinished_row_of(Dir::Tester, pair.open(Dir::Tester)),
-            second: unfinished_row_of(Dir::Unit, pair.open(Dir::Unit)),
-            third: closing_row_of(self.waits, self.silent),
+            first: unfinished_if(Dir::Tester, pair.open(Dir::Tester)),
+            second: unfinished_if(Dir::Unit, pair.open(Dir::Unit)),
+            third: closing_rows(self.waits, self.silence),
         }
     }
 }
 
 /// The row that tells that the request of the open exchange has no answer, if one is open.
-fn closing_row_of<'a>(waits: Option<u64>, silent: bool) -> Option<SessionRow<'a>>
-    ensures { (M : List Message) → IsWaiting M waits → IsSilent M silent → row_if result ≡ closing_rows M }
+fn closing_rows<'a>(waits: Option<u64>, silence: Silence) -> Option<SessionRow<'a>>
+    ensures { (M : List Message) (to_all : Bool) → IsWaiting M waits → IsSilence M to_all silence → row_if result ≡ closing_rows M to_all }
 {
     let number = waits?;
-    Some(SessionRow::Missing(Missing::NoAnswer { number, silent }))
+    Some(SessionRow::Missing(Missing::NoAnswer { number, silence }))
 }
 
 /// Where a frame stands.
@@ -170,7 +172,7 @@ fn here_of(seen: Seen<'_>) -> FramePlace
 
 /// The row of a frame here, if it was dropped.
 #[inline(always)]
-fn dropped_row_of<'a>(here: FramePlace, dir: Dir, event: Event<'_>) -> Option<SessionRow<'a>>
+fn dropped_rows<'a>(here: FramePlace, dir: Dir, event: Event<'_>) -> Option<SessionRow<'a>>
     ensures { row_if result ≡ dropped_rows here dir (seen_event event.entry) }
 {
     match event.verdict {
@@ -185,7 +187,7 @@ fn dropped_row_of<'a>(here: FramePlace, dir: Dir, event: Event<'_>) -> Option<Se
 }
 
 /// The row of what a frame here ended, if it ended something.
-fn ended_row_of<'a>(here: FramePlace, ended: Option<Ended>) -> Option<SessionRow<'a>>
+fn ended_rows<'a>(here: FramePlace, ended: Option<Ended>) -> Option<SessionRow<'a>>
     ensures { (e : Entry) → here ≡ place_of e → row_if result ≡ ended_rows e ended }
 {
     let ended = ended?;
@@ -194,7 +196,7 @@ fn ended_row_of<'a>(here: FramePlace, ended: Option<Ended>) -> Option<SessionRow
 
 /// The row of a reception that stands at the end, if one does: the line of its first frame, and the bytes that this
 /// announced.
-fn unfinished_row_of<'a>(dir: Dir, begun: Option<(u64, u32)>) -> Option<SessionRow<'a>>
+fn unfinished_if<'a>(dir: Dir, begun: Option<(u64, u32)>) -> Option<SessionRow<'a>>
     ensures { row_if result ≡ unfinished_if dir begun }
 {
     let (line, len) = begun?;

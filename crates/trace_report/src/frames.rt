@@ -1,12 +1,12 @@
 //! How many frames carry a message.
+
 ghost use Rattle.std.specs.Prelude.{◌≡◌, true};
 ghost use Rattle.direction.specs.declared.Dir.TheVariants.{Tester, Unit};
 ghost use Rattle.isotp_receive.specs.EventSeen.{seen_verdict};
 ghost use Rattle.trace_report.specs.proving.Following.{counted_by, frames_with, taken_after};
 
 use crate::counting::one_more;
-use direction::Dir;
-use isotp_receive::Verdict;
+use isotp_receive::{Channel, Verdict};
 use trace_canon::reception_starts::FramePlace;
 
 /// Of each direction how many consecutive frames the reception took that stands, if one does.
@@ -26,24 +26,14 @@ impl FrameCounts {
     }
 
     /// Takes what became of a frame.
-    pub(crate) fn take(&mut self, dir: Dir, verdict: Verdict<'_>)
-        ensures tester { self.new.tester ≡ taken_after Tester dir (seen_verdict verdict.entry) self.old.tester }
-        ensures unit { self.new.unit ≡ taken_after Unit dir (seen_verdict verdict.entry) self.old.unit }
+    pub(crate) fn take(&mut self, channel: Channel, verdict: Verdict<'_>)
+        ensures tester { self.new.tester ≡ taken_after Tester channel (seen_verdict verdict.entry) self.old.tester }
+        ensures unit { self.new.unit ≡ taken_after Unit channel (seen_verdict verdict.entry) self.old.unit }
     {
-        match dir {
-            Dir::Tester => self.tester = counted(verdict, self.tester),
-            Dir::Unit => self.unit = counted(verdict, self.unit),
-        }
-    }
-
-    /// The count of a direction.
-    pub(crate) fn of(&self, dir: Dir) -> u64
-        ensures tester { dir ≡ Tester → result ≡ self.now.tester }
-        ensures unit { dir ≡ Unit → result ≡ self.now.unit }
-    {
-        match dir {
-            Dir::Tester => self.tester,
-            Dir::Unit => self.unit,
+        match channel {
+            Channel::Tester => self.tester = counted(verdict, self.tester),
+            Channel::Unit => self.unit = counted(verdict, self.unit),
+            Channel::Functional => {}
         }
     }
 }
@@ -59,8 +49,8 @@ fn counted(verdict: Verdict<'_>, taken: u64) -> u64
     }
 }
 
-/// How many frames carry a message that a frame completed, where the reception began there that stood and that the frame
-/// did not end, if one did, and took so many consecutive frames.
+/// How many frames carry a message that a frame completed, where the reception began there that stood and that the
+/// frame did not end, if one did, and took so many consecutive frames.
 pub(crate) fn frames_carrying(begun: Option<FramePlace>, taken: u64) -> u64
     ensures { result ≡ frames_with begun taken }
 {

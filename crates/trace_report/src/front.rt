@@ -1,4 +1,5 @@
 //! The front of a report: what stands before its rows.
+
 use crate::rules_style::RulesStyle;
 use can_log::Id;
 use shown_bytes::Name;
@@ -7,8 +8,8 @@ use trace_io::TextSink;
 use trace_text::Identifier;
 use uds_rules::Rules;
 
-/// What a page is made for: its style, the name of the log, the identifiers, the limit of the log, and the rules that its
-/// messages are under.
+/// What a page is made for: its style, the name of the log, the identifiers, the limit of the log, and the rules that
+/// its messages are under.
 #[derive(Clone, Copy)]
 pub(crate) struct PageTitle<'a> {
     pub style: &'a str,
@@ -61,7 +62,7 @@ impl<'a> Part for PageHead<'a> {
         say(
             out,
             (
-                PageStart,
+                DocumentFront,
                 "<title>",
                 Name(title.name),
                 " - udsnorm report</title>\n<style>\n",
@@ -73,14 +74,14 @@ impl<'a> Part for PageHead<'a> {
     }
 }
 
-/// The start of a page: nothing may be fetched and nothing may run.
+/// The front of a page, up to its title: nothing may be fetched and nothing may run.
 #[derive(Clone, Copy)]
-pub struct PageStart;
+pub struct DocumentFront;
 
-impl Part for PageStart {
-    ghost use Rattle.trace_report.specs.Front.{page_start};
+impl Part for DocumentFront {
+    ghost use Rattle.trace_report.specs.Front.{document_front};
 
-    ghost text = { λ start. page_start };
+    ghost text = { λ start. document_front };
 
     fn say<S: TextSink>(self, out: &mut S) {
         say(

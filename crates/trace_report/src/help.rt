@@ -1,4 +1,5 @@
 //! The end of a report: how to read it, and the sign that it is whole.
+
 use text_parts::{Part, say};
 use trace_io::TextSink;
 
@@ -15,7 +16,7 @@ impl Part for Help {
         say(
             out,
             (
-                HelpStart,
+                HelpFront,
                 Legend,
                 Limits,
                 " In a long session the first ten blocks are open, and the others folded and brief.",
@@ -27,12 +28,12 @@ impl Part for Help {
 
 /// What a page shows.
 #[derive(Clone, Copy)]
-struct HelpStart;
+struct HelpFront;
 
-impl Part for HelpStart {
-    ghost use Rattle.trace_report.specs.Help.{help_start};
+impl Part for HelpFront {
+    ghost use Rattle.trace_report.specs.Help.{help_front};
 
-    ghost text = { λ start. help_start };
+    ghost text = { λ start. help_front };
 
     fn say<S: TextSink>(self, out: &mut S) {
         say(
@@ -169,7 +170,7 @@ impl Part for Limits {
     }
 }
 
-/// What the names behind bytes are, and of which edition of a standard.
+/// What the names behind bytes are, and of which edition of a standard, and trouble codes.
 #[derive(Clone, Copy)]
 struct NamesWords;
 
@@ -185,6 +186,7 @@ impl Part for NamesWords {
                 "Small words in brackets behind the bytes are names that the standards have for the first ones: for many sub-functions, data identifiers and routines. ",
                 "They are those of ISO 14229-1:2020, but for 0F to 13 of ReadDTCInformation, which are of its edition of 2013. Only that of 2020 has 56 there, and the response codes 34, 38 to 3A, 50 to 5D and 94. ",
                 "A service of OBD (ISO 15031-5) or of KWP2000 (ISO 14230) has its name where a message begins as a request of it does.",
+                " The trouble codes of a response of ReadDTCInformation are read as those of SAE J2012, of whatever format they are, each with the names of the bits that are 1 in its status; of more than 16 the others are counted.",
             ),
         );
     }

@@ -1,4 +1,5 @@
 //! The page of a log that lies in memory, gathered there. No device is asked.
+
 ghost use Rattle.std.specs.Prelude.{MatchResult};
 ghost use Rattle.isotp_receive.specs.declared.TheConstants.{MESSAGE_LIMIT};
 ghost use Rattle.trace_canon.specs.InMemory.{IsUnread};

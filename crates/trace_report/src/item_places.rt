@@ -1,4 +1,5 @@
 //! Where the items of a session stand among its rows, noted as these come.
+
 ghost use Rattle.std.specs.Prelude.{◌≡◌, ◌<◌, ◌∷◌, ◌++◌, [], None, IfSome, length};
 ghost use Rattle.std.specs.Vec.{vec_capacity, vec_len};
 ghost use Rattle.trace_report.specs.Rows.{row_of};

@@ -1,4 +1,5 @@
 //! The items of a session, lent.
+
 ghost use Rattle.std.specs.Prelude.{◌≡◌, option_map};
 ghost use Rattle.trace_report.specs.Items.{message_in, item_of, message_of};
 ghost use Rattle.trace_report.specs.proving.Keeping.{AreLaid, IsLaid, rows_at};

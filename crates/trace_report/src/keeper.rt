@@ -1,4 +1,5 @@
 //! Logs that are kept as a whole: a machine that says nothing, and keeps the rows of a session.
+
 ghost use Rattle.std.specs.Prelude.{◌≡◌, ◌≢◌, ℕ, List, [], ◌++◌, IfOk, IfErr, Err, OnOk, Some};
 ghost use Rattle.isotp_receive.specs.declared.TheConstants.{MESSAGE_LIMIT};
 ghost use Rattle.isotp_receive.specs.Trace.{Entry};

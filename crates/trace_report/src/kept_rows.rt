@@ -1,4 +1,5 @@
 //! The rows of a session, kept as they come, and where its items stand among them.
+
 ghost use Rattle.std.specs.Prelude.{◌≡◌, ◌<◌, ◌^◌, ◌∷◌, ◌++◌, [], IfOk, OnErr, OnOk, length, option_map, slice_get};
 ghost use Rattle.uds_exchange.specs.Blocks.{GoesOn};
 ghost use Rattle.trace_report.specs.Items.{items_in, rows_before, item_of};
@@ -85,7 +86,8 @@ impl KeptRows {
         self.rows.len()
     }
 
-    /// How many rows stand before the one with which the item of a place begins, counted from 0; all, where there is none.
+    /// How many rows stand before the one with which the item of a place begins, counted from 0; all, where there is
+    /// none.
     pub fn rows_before(&self, item: usize) -> usize
         ensures { result ≡ rows_before item self.now }
     {

@@ -1,6 +1,8 @@
 //! What holds of a page, whatever log it is of. A law is its contract; a call does nothing.
 
-ghost use Rattle.trace_report.specs.Laws.{AfterIsFromTheLastFrame, AfterIsToTheFirstFrame, IdentifiersStandOnce, ItemsAreTheMeaning, LinksHaveTargets, LooksAreTold, NegativeIsNegative, RuledStyleHoldsNoTag, StyleHoldsNoTag, TimeIsOfTheLastFrame};
+ghost use Rattle.trace_report.specs.Laws.{AfterIsFromTheLastFrame, AfterIsToTheFirstFrame, IdentifiersStandOnce};
+ghost use Rattle.trace_report.specs.Laws.{ItemsAreTheMeaning, LinksHaveTargets, LooksAreTold, NegativeIsNegative};
+ghost use Rattle.trace_report.specs.Laws.{RuledStyleHoldsNoTag, StyleHoldsNoTag, TimeIsOfTheLastFrame};
 ghost use Rattle.trace_report.specs.Numbers.{LineNumbersArePlaces, RowNumbersArePlaces};
 
 /// The style of a page opens and closes no element, and neither does what it has besides under rules.
@@ -43,8 +45,8 @@ pub fn times_are_as_told()
     ensures asked { AfterIsFromTheLastFrame }
 {}
 
-/// A file of another kind that its first bytes tell is told as that kind, whatever follows them: none is taken for another
-/// one.
+/// A file of another kind that its first bytes tell is told as that kind, whatever follows them: none is taken for
+/// another one.
 pub fn looks_are_told()
     ensures { LooksAreTold }
 {}

@@ -1,4 +1,5 @@
 //! What needs attention, with links to it.
+
 ghost use Rattle.std.specs.Prelude.{◌≡◌};
 ghost use Rattle.trace_report.specs.Links as Spec;
 

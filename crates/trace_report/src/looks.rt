@@ -1,9 +1,11 @@
 //! The table of looks: what files look like that are no logs, what is said of them, and what makes logs of them.
+
 ghost use Rattle.std.specs.Prelude.{◌≡◌, map};
 ghost use Rattle.trace_report.specs.Looks.{look_row};
 
-/// What a log looks like that is refused in its first line, or by the bytes that it begins with. One that first bytes tell
-/// stands in [`TOLD`], too: that none is missing there no proof says, since the definitions take that list from here.
+/// What a log looks like that is refused in its first line, or by the bytes that it begins with. One that first bytes
+/// tell stands in [`TOLD`], too: that none is missing there no proof says, since the definitions take that list from
+/// here.
 #[derive(Clone, Copy)]
 pub enum Look {
     /// A file that gzip has compressed.
@@ -34,6 +36,8 @@ pub enum Look {
     Pcap,
     /// A capture in the form pcapng, which followed that of libpcap.
     Pcapng,
+    /// A profile of a bench, a file of TOML.
+    Profile,
     /// A log whose stamps have a date.
     Date,
     /// Values with commas or semicolons between them.
@@ -54,7 +58,7 @@ pub(crate) struct LookRow {
 }
 
 /// The looks that first bytes tell.
-pub(crate) const TOLD: [Look; 14] = [
+pub(crate) const TOLD: [Look; 15] = [
     Look::Gzip,
     Look::Zstandard,
     Look::Xz,
@@ -69,6 +73,7 @@ pub(crate) const TOLD: [Look; 14] = [
     Look::Trc,
     Look::Pcap,
     Look::Pcapng,
+    Look::Profile,
 ];
 
 /// What reads the files of other tools.
@@ -139,6 +144,11 @@ pub(crate) fn look_row(look: Look) -> LookRow
             &[&[0x0A, 0x0D, 0x0D, 0x0A]],
             "looks like a pcapng capture",
             READS,
+        ),
+        Look::Profile => (
+            &[b"drop", b"mask", b"[[unit", b"# "],
+            "looks like a profile",
+            "--profile takes it",
         ),
         Look::Date => (&[], "looks like a log whose stamps have a date", READS),
         Look::Csv => (

@@ -1,13 +1,13 @@
 //! The rows of a report that tell messages.
+
 ghost use Rattle.std.specs.Prelude.{◌≡◌, ◌&&◌};
 ghost use Rattle.trace_report.specs.MessageRows.{message_row};
-ghost use Rattle.trace_report.specs.Roles.{begins_item};
 
-use crate::cells::{CellEnd, CellFront, RowFront};
+use crate::cells::{Arrow, CellEnd, CellFront, RowFront};
 use crate::durations::Seconds;
-use crate::message_words::{Note, RoleWords};
+use crate::message_words::{FunctionalWord, Note, RoleWords};
 use crate::roles::{MessageRole, begins_item};
-use crate::row::{Arrow, MessagePlace, SentMessage};
+use crate::row::{MessagePlace, SentMessage};
 use crate::targets::{LinkTarget, target_if};
 use shown_bytes::{Data, known_length};
 use text_parts::{Either, Part, say};
@@ -25,28 +25,78 @@ pub(crate) fn say_message_row<S: TextSink>(
 )
     ensures { S.says out.old (message_row rules.now origin sent.role sent.dir sent.place message.now) out.new }
 {
-    let SentMessage { role, dir, place } = sent;
     say(
         out,
-        (
-            MessageFront {
-                linked: true,
-                origin,
-                role,
-                place,
-            },
-            CellFront(dir),
-            RoleWords(role, dir, message),
-            Data { rules, message },
-            Note(role, place, known_length(rules, message)),
-            CellEnd(dir, Arrow::Headed),
-        ),
+        MessageRow {
+            linked: true,
+            origin,
+            sent,
+            words: RoleWords(sent.role, sent.dir, message),
+            bytes: Data { rules, message },
+            count: known_length(rules, message),
+        },
     );
+}
+
+/// The row of a message, to which links lead or not: with these words of what it is, its bytes as they are shown, and how
+/// many it has, where that is known. A word more in the last cell is one line here, and one of `shown_row`.
+#[derive(Clone, Copy)]
+pub struct MessageRow<W, B> {
+    pub linked: bool,
+    pub origin: u64,
+    pub sent: SentMessage,
+    pub words: W,
+    pub bytes: B,
+    pub count: Option<u64>,
+}
+
+impl<W: Part, B: Part> Part for MessageRow<W, B> {
+    ghost use Rattle.trace_report.specs.MessageRows.{shown_row};
+
+    ghost text = { λ row. shown_row (record {
+      linked = row.linked;
+      origin = row.origin;
+      is = row.sent.role;
+      d = row.sent.dir;
+      place = row.sent.place;
+      words = W.text row.words;
+      bytes = B.text row.bytes;
+      count = row.count;
+    }) };
+
+    fn say<S: TextSink>(self, out: &mut S) {
+        let MessageRow {
+            linked,
+            origin,
+            sent,
+            words,
+            bytes,
+            count,
+        } = self;
+        let SentMessage { role, dir, place } = sent;
+        say(
+            out,
+            (
+                MessageFront {
+                    linked,
+                    origin,
+                    role,
+                    place,
+                },
+                CellFront(dir),
+                words,
+                FunctionalWord(place.is_functional),
+                bytes,
+                Note(role, place, count),
+                CellEnd(dir, Arrow::Headed),
+            ),
+        );
+    }
 }
 
 /// Where a message stands, as a row to which links lead or not.
 #[derive(Clone, Copy)]
-pub struct MessageFront {
+pub(crate) struct MessageFront {
     pub linked: bool,
     pub origin: u64,
     pub role: MessageRole,
@@ -66,7 +116,7 @@ impl Part for MessageFront {
             place,
         } = self;
         let begins = begins_item(role);
-        let is_place = is_item_place(linked, role);
+        let is_place = is_item_place(linked, begins);
         let number = Number(place.item);
         say(
             out,
@@ -81,11 +131,12 @@ impl Part for MessageFront {
     }
 }
 
-/// Whether links lead to the row of a message of this role as to its item.
-fn is_item_place(linked: bool, role: MessageRole) -> bool
-    ensures { result ≡ (linked && begins_item role) }
+/// Whether links lead as to an item to the row of a message, which begins one or does not. A call of its own, so that a
+/// proof can name the test.
+fn is_item_place(linked: bool, begins: bool) -> bool
+    ensures { result ≡ (linked && begins) }
 {
-    linked && begins_item(role)
+    linked && begins
 }
 
 /// The class of the style by which a message is shown. The other rows have some, too:

@@ -42,10 +42,24 @@ impl<'a> Part for RoleWords<'a> {
     }
 }
 
-/// The note on a message of so many bytes, where it is known how many it has: how many frames carry them, and how long after
-/// its request the first of them came, if it replies to one.
+/// The word of a message to all units; any other has none.
 #[derive(Clone, Copy)]
-pub struct Note(pub MessageRole, pub MessagePlace, pub Option<u64>);
+pub(crate) struct FunctionalWord(pub bool);
+
+impl Part for FunctionalWord {
+    ghost use Rattle.trace_report.specs.MessageRows.{functional_word};
+
+    ghost text = { λ word. functional_word word.0 };
+
+    fn say<S: TextSink>(self, out: &mut S) {
+        say(out, if self.0 { "<i>functional</i> " } else { "" });
+    }
+}
+
+/// The note on a message of so many bytes, where it is known how many it has: how many frames carry them, and how long
+/// after its request the first of them came, if it replies to one.
+#[derive(Clone, Copy)]
+pub(crate) struct Note(pub MessageRole, pub MessagePlace, pub Option<u64>);
 
 impl Part for Note {
     ghost use Rattle.trace_report.specs.MessageRows.{note_text};

@@ -1,10 +1,13 @@
 //! The rows of a report that tell what is missing: answers, frames, and messages that are not whole.
+
 ghost use Rattle.trace_report.specs.MissingRows.{dropped_row, ended_row, missing_row, no_answer_row, unfinished_row};
 
-use crate::cells::{CellEnd, CellFront, RowFront};
+use crate::cells::{Arrow, CellEnd, CellFront, RowFront};
 use crate::durations::Seconds;
-use crate::missing_words::{DroppedWords, EndedWords, UnfinishedWords};
-use crate::row::{Arrow, Missing};
+use crate::missing_words::{
+    DroppedWords, EndedWords, NoAnswerClass, NoAnswerWords, UnfinishedWords,
+};
+use crate::row::{Missing, Silence};
 use crate::targets::{LinkTarget, target_if};
 use direction::Dir;
 use isotp_receive::{Ended, Reason};
@@ -13,12 +16,13 @@ use trace_canon::reception_starts::FramePlace;
 use trace_io::TextSink;
 use trace_text::Number;
 
-/// Says the row of what is missing, to which links lead or not. To that of a dropped frame they lead only where it says so.
+/// Says the row of what is missing, to which links lead or not. To that of a dropped frame they lead only where it says
+/// so.
 pub fn say_missing_row<S: TextSink>(linked: bool, origin: u64, missing: Missing, out: &mut S)
     ensures { S.says out.old (missing_row linked origin missing) out.new }
 {
     match missing {
-        Missing::NoAnswer { number, silent } => say_no_answer_row(number, silent, out),
+        Missing::NoAnswer { number, silence } => say_no_answer_row(number, silence, out),
         Missing::Dropped {
             place,
             dir,
@@ -44,27 +48,18 @@ pub fn say_missing_row<S: TextSink>(linked: bool, origin: u64, missing: Missing,
     }
 }
 
-/// Says the row of an item without an answer: it asked for no positive one, or did not.
-fn say_no_answer_row<S: TextSink>(number: u64, silent: bool, out: &mut S)
-    ensures { S.says out.old (no_answer_row number silent) out.new }
+/// Says the row of an item without an answer.
+fn say_no_answer_row<S: TextSink>(number: u64, silence: Silence, out: &mut S)
+    ensures { S.says out.old (no_answer_row number silence) out.new }
 {
-    let item = Number(number);
     let front = RowFront {
-        class: Either(silent, "p", "m"),
+        class: NoAnswerClass(silence),
         target: None,
-        item: ("<td>", item),
+        item: ("<td>", Number(number)),
         lines: (),
         time: (),
     };
-    let words = Either(
-        silent,
-        (
-            "<b>silent</b> <i>item ",
-            item,
-            " asked for no positive answer</i>",
-        ),
-        ("<b>no answer</b> <i>to item ", item, "</i>"),
-    );
+    let words = NoAnswerWords(number, silence);
     say(
         out,
         (

@@ -1,12 +1,63 @@
 //! What is missing in a log, in words.
-ghost use Rattle.trace_report.specs.MissingRows.{layout_fault_words};
 
+use crate::plain_reasons::{CauseWords, ReasonWords};
+use crate::row::Silence;
 use direction::Dir;
-use isotp_pdu::PduFault;
-use isotp_receive::{Cause, Ended, MESSAGE_LIMIT, Reason};
+use isotp_receive::{Ended, Reason};
 use text_parts::{Part, say};
 use trace_io::TextSink;
 use trace_text::{DropReason, EndCause, Length, Number, Sender};
+
+/// The class of the row of an item without an answer.
+#[derive(Clone, Copy)]
+pub struct NoAnswerClass(pub Silence);
+
+impl Part for NoAnswerClass {
+    ghost use Rattle.trace_report.specs.MissingRows.{no_answer_class};
+
+    ghost text = { λ class. no_answer_class class.0 };
+
+    fn say<S: TextSink>(self, out: &mut S) {
+        match self.0 {
+            Silence::Suppressed | Silence::ToAllUnits => say(out, "p"),
+            Silence::Unanswered => say(out, "m"),
+        }
+    }
+}
+
+/// The item of this number, which has no answer.
+#[derive(Clone, Copy)]
+pub struct NoAnswerWords(pub u64, pub Silence);
+
+impl Part for NoAnswerWords {
+    ghost use Rattle.trace_report.specs.MissingRows.{no_answer_words};
+
+    ghost text = { λ words. no_answer_words words.0 words.1 };
+
+    fn say<S: TextSink>(self, out: &mut S) {
+        let NoAnswerWords(number, silence) = self;
+        let item = Number(number);
+        match silence {
+            Silence::Suppressed => say(
+                out,
+                (
+                    "<b>silent</b> <i>item ",
+                    item,
+                    " asked for no positive answer</i>",
+                ),
+            ),
+            Silence::ToAllUnits => say(
+                out,
+                (
+                    "<b>no answer</b> <i>to item ",
+                    item,
+                    ", which went to all units</i>",
+                ),
+            ),
+            Silence::Unanswered => say(out, ("<b>no answer</b> <i>to item ", item, "</i>")),
+        }
+    }
+}
 
 /// A frame of this side that was dropped.
 #[derive(Clone, Copy)]
@@ -86,68 +137,6 @@ impl Part for UnfinishedWords {
     }
 }
 
-/// Why a frame was dropped, for a reader who knows no ISO 15765-2.
-#[derive(Clone, Copy)]
-struct ReasonWords(Reason);
-
-impl Part for ReasonWords {
-    ghost use Rattle.trace_report.specs.MissingRows.{reason_words};
-
-    ghost text = { λ why. reason_words why.0 };
-
-    fn say<S: TextSink>(self, out: &mut S) {
-        match self.0 {
-            Reason::Pdu(fault) => say_layout_fault_words(fault, out),
-            Reason::FlowUnexpected => say(
-                out,
-                " <i>the other side was sending nothing that it could be for</i>",
-            ),
-            Reason::NextUnexpected => say(
-                out,
-                " <i>no message was under way that it goes on with</i>",
-            ),
-            Reason::NextLate | Reason::NextSequence { .. } | Reason::NextLength => {}
-            Reason::TooLong { .. } => say(
-                out,
-                (" <i>more than the limit of ", Length(MESSAGE_LIMIT), "</i>"),
-            ),
-        }
-    }
-}
-
-/// Says why a frame has no layout, for a reader who knows no ISO 15765-2.
-fn say_layout_fault_words<S: TextSink>(fault: PduFault, out: &mut S)
-    ensures { S.says out.old (layout_fault_words fault) out.new }
-{
-    match fault {
-        PduFault::Remote => say(out, " <i>it carries no data</i>"),
-        PduFault::FrameLength => say(out, " <i>no CAN frame has this many bytes</i>"),
-        PduFault::Empty => say(out, " <i>it has no byte</i>"),
-        PduFault::UnknownKind => {
-            say(out, " <i>its first byte is of no kind of ISO-TP frame</i>");
-        }
-        PduFault::SingleLength => {
-            say(
-                out,
-                " <i>its length does not fit the length that it tells</i>",
-            );
-        }
-        PduFault::FirstLength => {
-            say(
-                out,
-                " <i>its length, or the one that it announces, is that of no first frame</i>",
-            );
-        }
-        PduFault::FlowShort => say(out, " <i>it has fewer than 3 bytes</i>"),
-        PduFault::FlowStatus => {
-            say(
-                out,
-                " <i>its status is none of continue, wait and overflow</i>",
-            );
-        }
-    }
-}
-
 /// A message that is not whole: where it began, and how many bytes were announced.
 #[derive(Clone, Copy)]
 struct PartialText {
@@ -173,28 +162,5 @@ impl Part for PartialText {
                 " bytes announced:",
             ),
         );
-    }
-}
-
-/// Why a reception ended, for a reader who knows no ISO 15765-2.
-#[derive(Clone, Copy)]
-struct CauseWords(Cause);
-
-impl Part for CauseWords {
-    ghost use Rattle.trace_report.specs.MissingRows.{cause_words};
-
-    ghost text = { λ why. cause_words why.0 };
-
-    fn say<S: TextSink>(self, out: &mut S) {
-        match self.0 {
-            Cause::NewStart => say(
-                out,
-                "another message of this side began before its last frame",
-            ),
-            Cause::Overflow => say(out, "the other side said that it has no room"),
-            Cause::Late => say(out, "its next frame came after more than 1 s"),
-            Cause::Sequence => say(out, "a frame is missing, came twice or out of order"),
-            Cause::Length => say(out, "a frame has another length than its first one"),
-        }
     }
 }

@@ -1,4 +1,5 @@
 //! Why a recording is not called clean.
+
 ghost use Rattle.std.specs.Prelude.{◌≡◌};
 ghost use Rattle.trace_report.specs.Verdict as Spec;
 
@@ -8,8 +9,8 @@ use trace_log::Summary;
 use trace_text::Number;
 use uds_rules::Rules;
 
-/// Each reason why a recording is not called clean: of one that is not clean what `--strict` tells of it; and what that means for
-/// the messages, by the rules that these are under.
+/// Each reason why a recording is not called clean: of one that is not clean what `--strict` tells of it; and what that
+/// means for the messages, by the rules that these are under.
 #[derive(Clone, Copy)]
 pub struct UncleanReasons<'a>(pub &'a Rules, pub &'a Summary);
 
@@ -32,7 +33,7 @@ impl<'a> Part for UncleanReasons<'a> {
 
 /// What was lost of the frames of a recording, and what it lacks, in the words that `--strict` tells it.
 #[derive(Clone, Copy)]
-struct StrictWords<'a>(pub &'a Summary);
+struct StrictWords<'a>(&'a Summary);
 
 impl<'a> Part for StrictWords<'a> {
     ghost use Rattle.trace_report.specs.Verdict.{strict_words};
@@ -92,7 +93,10 @@ impl<'a> Part for MeaningWords<'a> {
                     Either(
                         summary.lines == 0,
                         " The log is empty: it has no line.",
-                        " Either no line has a frame, or other identifiers are meant: see <code>--tester</code> and <code>--unit</code>.",
+                        (
+                            " Either no line has a frame, or other identifiers are meant: see ",
+                            OptionsWords,
+                        ),
                     ),
                 ),
                 When(
@@ -104,11 +108,26 @@ impl<'a> Part for MeaningWords<'a> {
                             whole: "No message is a request",
                             left: "Of what the rules leave, no message is a request",
                         },
-                        ": the tester sent responses, and the unit messages that are none. See <code>--tester</code> and <code>--unit</code>.",
+                        ": the tester sent responses, and the unit messages that are none. See ",
+                        OptionsWords,
                     ),
                 ),
             ),
         );
+    }
+}
+
+/// The options that say which identifiers are meant.
+#[derive(Clone, Copy)]
+struct OptionsWords;
+
+impl Part for OptionsWords {
+    ghost use Rattle.trace_report.specs.Verdict.{options_words};
+
+    ghost text = { λ words. options_words };
+
+    fn say<S: TextSink>(self, out: &mut S) {
+        say(out, "<code>--tester</code> and <code>--unit</code>.");
     }
 }
 

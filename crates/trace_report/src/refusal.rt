@@ -1,6 +1,7 @@
 //! Why a log is refused.
+
 use crate::cause::{CauseLine, RefusalCause};
-use crate::verdict_head::VerdictHead;
+use crate::verdict_front::VerdictFront;
 use text_parts::{Part, say};
 use trace_io::TextSink;
 use trace_log::Fault;
@@ -40,7 +41,7 @@ impl Part for RefusedHeading {
         say(
             out,
             (
-                VerdictHead("bad", "&#10005;"),
+                VerdictFront("bad", "&#10005;"),
                 "The log is refused</h2>\n<p><em>",
                 Refusal(self.0),
                 ".</em> Below is what the lines before that say; what comes after it is not read, and the counts are of the lines before.</p>\n",

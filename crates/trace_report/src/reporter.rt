@@ -1,4 +1,5 @@
 //! `report`: a machine that says a session as a page, each row as its frame comes.
+
 ghost use Rattle.std.specs.Prelude.{◌≡◌, List};
 ghost use Rattle.isotp_receive.specs.declared.TheConstants.{MESSAGE_LIMIT};
 ghost use Rattle.isotp_receive.specs.Trace.{Entry};
@@ -11,28 +12,25 @@ ghost use Rattle.trace_report.specs.proving.Following.{times_of};
 ghost use Rattle.trace_report.specs.proving.Pages.{title_of};
 ghost use Rattle.trace_log.specs.Devices.{HasLowCounts};
 
-use crate::block_fronts::BlockEnd;
-use crate::blocks::Blocks;
-use crate::cause::{RefusalCause, cause_of};
+use crate::cause::cause_of;
 use crate::chart::Chart;
 use crate::follower::Follower;
 use crate::front::{Front, PageTitle};
-use crate::help::Help;
-use crate::refusal::StopLine;
-use crate::rule_words::RulesSection;
+use crate::page_end::{PageEnd, RefusedEnd};
 use crate::times::{Times, first_of, times_with};
-use crate::verdict::{Findings, RefusedVerdict, VerdictSection};
+use crate::verdict::Findings;
 use isotp_receive::Pair;
 use std::alloc::{AllocError, Global};
-use text_parts::{Part, say};
+use text_parts::say;
 use trace_io::{Source, Target, TextSink};
 use trace_log::{Config, Fault, Summary};
 use trace_run::{
     Glimpse, Machine, NoAnswer, RuleCounts, Seen, count_message, no_counts, run_lenient,
 };
 
-/// Reads a log and writes its session as a page of HTML, with this style and the name of the log: each row as its frame comes, of
-/// what the rules leave of its message, and at the end the rules and the verdict, which the style shows first.
+/// Reads a log and writes its session as a page of HTML, with this style and the name of the log: each row as its frame
+/// comes, of what the rules leave of its message, and at the end the rules and the verdict, which the style shows
+/// first.
 ///
 /// The target is not flushed.
 pub fn report<R: Source, W: Target>(
@@ -185,67 +183,5 @@ fn say_front_before<S: TextSink>(title: &PageTitle<'_>, times: Option<Times>, ou
 {
     if times.is_none() {
         say(out, Front(*title));
-    }
-}
-
-/// What stands behind all rows, which left these blocks.
-#[derive(Clone, Copy)]
-struct PageEnd<'a> {
-    blocks: Blocks,
-    found: Findings<'a>,
-}
-
-impl<'a> Part for PageEnd<'a> {
-    ghost use Rattle.trace_report.specs.Page.{page_end};
-    ghost use Rattle.trace_report.specs.proving.Lending.{findings_value};
-
-    ghost text = { λ end. page_end end.blocks (findings_value end.found) };
-
-    fn say<S: TextSink>(self, out: &mut S) {
-        say(
-            out,
-            (
-                BlockEnd(self.blocks.count),
-                "</main>\n",
-                RulesSection(self.found.rules, self.found.spoken),
-                VerdictSection(self.found),
-                Help,
-            ),
-        );
-    }
-}
-
-/// What stands behind all rows of a log that is refused.
-#[derive(Clone, Copy)]
-struct RefusedEnd<'a> {
-    why: Fault,
-    cause: Option<RefusalCause>,
-    blocks: Blocks,
-    found: Findings<'a>,
-}
-
-impl<'a> Part for RefusedEnd<'a> {
-    ghost use Rattle.trace_report.specs.Page.{refused_end};
-    ghost use Rattle.trace_report.specs.proving.Lending.{findings_value};
-
-    ghost text = { λ end. refused_end end.why end.cause end.blocks (findings_value end.found) };
-
-    fn say<S: TextSink>(self, out: &mut S) {
-        let verdict = RefusedVerdict {
-            why: self.why,
-            cause: self.cause,
-            found: self.found,
-        };
-        say(
-            out,
-            (
-                BlockEnd(self.blocks.count),
-                StopLine(self.why),
-                "</main>\n",
-                RulesSection(self.found.rules, self.found.spoken),
-                verdict,
-                Help,
-            ),
-        );
     }
 }

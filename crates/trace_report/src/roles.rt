@@ -1,4 +1,5 @@
 //! What a message is to its item, and what is asked of that.
+
 ghost use Rattle.std.specs.Prelude.{◌≡◌};
 ghost use Rattle.trace_report.specs.Roles as Spec;
 

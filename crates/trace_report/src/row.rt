@@ -5,24 +5,15 @@ use direction::Dir;
 use isotp_receive::{Ended, Reason};
 use trace_canon::reception_starts::FramePlace;
 
-/// Where a message stands: its item, its first frame and its last one, and how many carry its bytes.
+/// Where a message stands: its item, its first frame and its last one, how many carry its bytes, and whether it was
+/// sent to all units.
 #[derive(Clone, Copy, Debug)]
 pub struct MessagePlace {
     pub item: u64,
     pub first: FramePlace,
     pub last: FramePlace,
     pub frames: u64,
-}
-
-/// How an arrow of the chart ends.
-#[derive(Clone, Copy, Debug)]
-pub enum Arrow {
-    /// In a head: a message.
-    Headed,
-    /// In a cross: a frame that was dropped.
-    Crossed,
-    /// In a bar: what was cut short.
-    Barred,
+    pub is_functional: bool,
 }
 
 /// What a row tells of a message, beside its bytes: what it is to its item, which side sent it, and where it stands.
@@ -45,16 +36,27 @@ pub enum SessionRow<'a> {
     Missing(Missing),
 }
 
+/// Why an item has no answer.
+#[derive(Clone, Copy, Debug)]
+pub enum Silence {
+    /// Its request asked for no positive one.
+    Suppressed,
+    /// Its request went to all units, and need not concern this one.
+    ToAllUnits,
+    /// One was due.
+    Unanswered,
+}
+
 /// What a row tells that is missing: an answer, a frame, or the rest of a message.
 #[derive(Clone, Copy, Debug)]
 pub enum Missing {
-    /// The item of this number has no answer. Its request asked for no positive one, or did not.
+    /// The item of this number has no answer.
     NoAnswer {
         number: u64,
-        silent: bool,
+        silence: Silence,
     },
-    /// The frame in this place, which this side sent, was dropped. Links lead to this row, or the row before is of the same
-    /// frame, and they lead there.
+    /// The frame in this place, which this side sent, was dropped. Links lead to this row, or the row before is of the
+    /// same frame, and they lead there.
     Dropped {
         place: FramePlace,
         dir: Dir,

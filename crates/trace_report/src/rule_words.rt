@@ -1,11 +1,12 @@
 //! What a page says of the rules that it is under.
+
 use text_parts::{Either, Part, say};
 use trace_io::TextSink;
 use trace_text::{MessagesWord, Number, RuleText};
 use uds_rules::{Rule, Rules};
 
-/// What a page of a log says above its verdict of the rules that it is under, with these counts of messages: nothing, where
-/// there are none.
+/// What a page of a log says above its verdict of the rules that it is under, with these counts of messages: nothing,
+/// where there are none.
 #[derive(Clone, Copy)]
 pub(crate) struct RulesSection<'a>(pub &'a Rules, pub &'a [u64]);
 

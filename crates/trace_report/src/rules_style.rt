@@ -1,4 +1,5 @@
 //! What the style of a page has besides, where the page is under rules: it shows them above the verdict.
+
 ghost use Rattle.std.specs.Prelude.{◌≡◌};
 ghost use Rattle.trace_report.specs.RulesStyle.{ruled_style};
 

@@ -1,4 +1,5 @@
 //! A session that is kept as a whole.
+
 ghost use Rattle.std.specs.Prelude.{◌≡◌};
 ghost use Rattle.trace_report.specs.proving.Lending.{first_of_times, last_of_times};
 
@@ -9,8 +10,8 @@ use trace_log::Summary;
 use trace_run::RuleCounts;
 use uds_rules::Rules;
 
-/// What a log says, kept. Contracts see its rows, its counts, the times of its first frame and its last one, the rules that it is
-/// under, and of how many of its messages each spoke.
+/// What a log says, kept. Contracts see its rows, its counts, the times of its first frame and its last one, the rules
+/// that it is under, and of how many of its messages each spoke.
 #[derive(Debug, Drop)]
 pub struct KeptSession<'a> {
     rows: KeptRows,
@@ -37,8 +38,8 @@ impl<'a> Model for KeptSession<'a> {
 }
 
 impl<'a> KeptSession<'a> {
-    /// What is kept of a log under these rules: its rows, its counts, the times of its first frame and its last one, if it has
-    /// frames, and of how many messages each rule spoke.
+    /// What is kept of a log under these rules: its rows, its counts, the times of its first frame and its last one, if
+    /// it has frames, and of how many messages each rule spoke.
     pub(crate) fn of(
         rules: &'a Rules,
         rows: KeptRows,

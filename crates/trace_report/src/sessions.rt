@@ -1,4 +1,5 @@
 //! Two sessions that are kept.
+
 ghost use Rattle.std.specs.Prelude.{◌≡◌};
 
 use crate::session::KeptSession;

@@ -1,10 +1,11 @@
 //! The sorts of a report's rows: what is counted, and where links lead.
+
 ghost use Rattle.std.specs.Prelude.{◌≡◌};
 ghost use Rattle.trace_report.specs.Sorts as Spec;
 ghost use Rattle.trace_report.specs.Rows.{missing_of, row_of};
 
 use crate::roles::MessageRole;
-use crate::row::{Missing, SessionRow};
+use crate::row::{Missing, SessionRow, Silence};
 use crate::targets::LinkTarget;
 
 /// What needs attention, and what else is counted.
@@ -17,6 +18,7 @@ pub(crate) enum Sort {
     KeepAlives,
     Strays,
     Unanswered,
+    ToAllUnits,
     Silent,
     Dropped,
     Ended,
@@ -38,7 +40,7 @@ fn sort_of_missing(missing: Missing) -> Sort
     ensures { result ≡ Spec.sort_of (missing_of missing) }
 {
     match missing {
-        Missing::NoAnswer { silent, .. } => sort_of_silence(silent),
+        Missing::NoAnswer { silence, .. } => sort_of_silence(silence),
         Missing::Dropped { .. } => Sort::Dropped,
         Missing::Ended { .. } => Sort::Ended,
         Missing::Unfinished { .. } => Sort::Unfinished,
@@ -59,8 +61,8 @@ fn sort_of_role(role: MessageRole) -> Sort
     }
 }
 
-/// Whether rows of this sort need attention: a page links to the first of them, and its filter hides each exchange without
-/// one.
+/// Whether rows of this sort need attention: a page links to the first of them, and its filter hides each exchange
+/// without one.
 pub(crate) fn needs_attention(sort: Sort) -> bool
     ensures { result ≡ Spec.needs_attention sort }
 {
@@ -71,9 +73,12 @@ pub(crate) fn needs_attention(sort: Sort) -> bool
         | Sort::Dropped
         | Sort::Ended
         | Sort::Unfinished => true,
-        Sort::Requests | Sort::Positives | Sort::Pendings | Sort::KeepAlives | Sort::Silent => {
-            false
-        }
+        Sort::Requests
+        | Sort::Positives
+        | Sort::Pendings
+        | Sort::KeepAlives
+        | Sort::ToAllUnits
+        | Sort::Silent => false,
     }
 }
 
@@ -84,14 +89,14 @@ pub(crate) fn message_needs_attention(role: MessageRole) -> bool
     needs_attention(sort_of_role(role))
 }
 
-/// The sort of the row of an item without an answer, which asked for no positive one or did.
-fn sort_of_silence(silent: bool) -> Sort
-    ensures { result ≡ Spec.sort_of_silence silent }
+/// The sort of the row of an item without an answer.
+fn sort_of_silence(silence: Silence) -> Sort
+    ensures { result ≡ Spec.sort_of_silence silence }
 {
-    if silent {
-        Sort::Silent
-    } else {
-        Sort::Unanswered
+    match silence {
+        Silence::Suppressed => Sort::Silent,
+        Silence::ToAllUnits => Sort::ToAllUnits,
+        Silence::Unanswered => Sort::Unanswered,
     }
 }
 

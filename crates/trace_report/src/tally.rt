@@ -1,4 +1,5 @@
 //! What a report keeps of its rows for the verdict.
+
 ghost use Rattle.std.specs.Prelude.{◌≡◌, ◌<◌, ◌^◌, ◌-◌, List, [], ◌∷◌, ◌++◌, length, take};
 ghost use Rattle.trace_report.specs.Rows.{RowValue, row_of};
 ghost use Rattle.trace_report.specs.Sorts.{counts_in, first_targets, most_links, tally_of};
@@ -17,6 +18,7 @@ pub struct SortCounts {
     pub positives: u64,
     pub negatives: u64,
     pub unanswered: u64,
+    pub to_all_units: u64,
     pub silent: u64,
     pub pendings: u64,
     pub keep_alives: u64,
@@ -36,6 +38,7 @@ impl SortCounts {
             positives: 0,
             negatives: 0,
             unanswered: 0,
+            to_all_units: 0,
             silent: 0,
             pendings: 0,
             keep_alives: 0,
@@ -58,6 +61,7 @@ impl SortCounts {
             Sort::KeepAlives => self.keep_alives = one_more(self.keep_alives),
             Sort::Strays => self.strays = one_more(self.strays),
             Sort::Unanswered => self.unanswered = one_more(self.unanswered),
+            Sort::ToAllUnits => self.to_all_units = one_more(self.to_all_units),
             Sort::Silent => self.silent = one_more(self.silent),
             Sort::Dropped => self.dropped = one_more(self.dropped),
             Sort::Ended => self.ended = one_more(self.ended),
@@ -109,8 +113,12 @@ impl FirstTargets {
             Sort::Negatives => push_if_room(&mut self.negatives, target),
             Sort::Unanswered => push_if_room(&mut self.unanswered, target),
             Sort::Strays => push_if_room(&mut self.strays, target),
-            Sort::Requests | Sort::Positives | Sort::Pendings | Sort::KeepAlives | Sort::Silent =>
-                {}
+            Sort::Requests
+            | Sort::Positives
+            | Sort::Pendings
+            | Sort::KeepAlives
+            | Sort::ToAllUnits
+            | Sort::Silent => {}
         }
     }
 }

@@ -1,4 +1,5 @@
 //! The places of a page of one log to which links lead, and their identifiers.
+
 ghost use Rattle.std.specs.Prelude.{◌≡◌};
 ghost use Rattle.trace_report.specs.Targets as Spec;
 

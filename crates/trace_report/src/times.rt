@@ -1,4 +1,5 @@
 //! When a session begins and ends.
+
 ghost use Rattle.std.specs.Prelude.{◌≡◌, List, [], ◌∷◌, ◌++◌, Some};
 ghost use Rattle.isotp_receive.specs.Trace.{Entry};
 ghost use Rattle.trace_report.specs.proving.Following.{times_of};

@@ -1,25 +1,25 @@
-//! The verdict of a report: its heading, whether each answer is positive, what needs attention, the counts, and the time
-//! that the log spans.
+//! The verdict of a report: its heading, whether each answer is positive, what needs attention, the counts, and the
+//! time that the log spans.
+
 ghost use Rattle.std.specs.Prelude.{◌≡◌};
 ghost use Rattle.trace_report.specs.Verdict as Spec;
 
 use crate::cause::RefusalCause;
 use crate::counts::Counts;
-use crate::durations::Seconds;
 use crate::links::Attention;
 use crate::reasons::{UncleanReasons, WordsUnder};
 use crate::refusal::RefusedHeading;
+use crate::spans::SpanOf;
 use crate::tally::{SortCounts, Tally};
 use crate::times::{Times, first_of, last_of};
-use crate::verdict_head::VerdictHead;
-use text_parts::{Either, Part, say};
+use crate::verdict_front::VerdictFront;
+use text_parts::{Either, Part, When, say};
 use trace_io::TextSink;
 use trace_log::{Fault, Summary};
-use trace_text::Stamp;
 use uds_rules::Rules;
 
-/// What was found of a log: the rules that it is under, of how many messages each spoke, the tally of its rows, its counts, and
-/// the times of its first frame and its last one.
+/// What was found of a log: the rules that it is under, of how many messages each spoke, the tally of its rows, its
+/// counts, and the times of its first frame and its last one.
 #[derive(Clone, Copy)]
 pub(crate) struct Findings<'a> {
     pub rules: &'a Rules,
@@ -47,7 +47,7 @@ impl<'a> Part for VerdictSection<'a> {
                 Heading(found.rules, found.summary),
                 AnswersOf(found.rules, &found.tally.counts),
                 "</p>\n",
-                found,
+                FindingsText(found),
             ),
         );
     }
@@ -68,15 +68,25 @@ impl<'a> Part for RefusedVerdict<'a> {
     ghost text = { λ verdict. refused_verdict verdict.why verdict.cause (findings_value verdict.found) };
 
     fn say<S: TextSink>(self, out: &mut S) {
-        say(out, (RefusedHeading(self.why, self.cause), self.found));
+        say(
+            out,
+            (
+                RefusedHeading(self.why, self.cause),
+                FindingsText(self.found),
+            ),
+        );
     }
 }
 
-impl<'a> Part for Findings<'a> {
+/// What was found of a log, behind the heading of its verdict.
+#[derive(Clone, Copy)]
+struct FindingsText<'a>(Findings<'a>);
+
+impl<'a> Part for FindingsText<'a> {
     ghost use Rattle.trace_report.specs.Verdict.{findings_text};
     ghost use Rattle.trace_report.specs.proving.Lending.{findings_value};
 
-    ghost text = { λ found. findings_text (findings_value found) };
+    ghost text = { λ found. findings_text (findings_value found.0) };
 
     fn say<S: TextSink>(self, out: &mut S) {
         let Findings {
@@ -84,7 +94,7 @@ impl<'a> Part for Findings<'a> {
             summary,
             times,
             ..
-        } = self;
+        } = self.0;
         say(
             out,
             (
@@ -116,7 +126,7 @@ impl<'a> Part for Heading<'a> {
             say(
                 out,
                 (
-                    VerdictHead("good", "&#10003;"),
+                    VerdictFront("good", "&#10003;"),
                     "The recording is clean</h2>\n",
                     "<p>No frame of the two identifiers was dropped, and no message is in part.",
                 ),
@@ -150,7 +160,7 @@ impl<'a> Part for UncleanHeading<'a> {
         let summary = self.0;
         say(
             out,
-            (VerdictHead("warn", "!"), StartWords(summary), "</h2>\n<p>"),
+            (VerdictFront("warn", "!"), StartWords(summary), "</h2>\n<p>"),
         );
     }
 }
@@ -172,13 +182,15 @@ impl<'a> Part for StartWords<'a> {
                 summary.frames == 0,
                 "No frame of the tester or the unit",
                 Either(
-                    summary.looks_exchanged,
-                    Either(
-                        summary.is_clean(),
-                        "Tester and unit look exchanged",
-                        "The recording is not clean, and tester and unit look exchanged",
+                    summary.is_clean(),
+                    "Tester and unit look exchanged",
+                    (
+                        "The recording is not clean",
+                        When(
+                            summary.looks_exchanged,
+                            ", and tester and unit look exchanged",
+                        ),
                     ),
-                    "The recording is not clean",
                 ),
             ),
         );
@@ -216,42 +228,6 @@ impl<'a> Part for AnswersOf<'a> {
                     whole: " Not every request has a positive answer.",
                     left: " Of what the rules leave, not every request has a positive answer.",
                 },
-            );
-        }
-    }
-}
-
-/// From when to when a log of so many frames goes, where it has some.
-#[derive(Clone, Copy)]
-pub struct SpanOf {
-    pub frames: u64,
-    pub first: u64,
-    pub last: u64,
-}
-
-impl Part for SpanOf {
-    ghost use Rattle.trace_report.specs.Verdict.{span_of};
-
-    ghost text = { λ span. span_of span.frames span.first span.last };
-
-    fn say<S: TextSink>(self, out: &mut S) {
-        let SpanOf {
-            frames,
-            first,
-            last,
-        } = self;
-        if frames > 0 {
-            say(
-                out,
-                (
-                    "<p class=\"span\">First frame at ",
-                    Stamp(first),
-                    ", last at ",
-                    Stamp(last),
-                    " by the clock of the log: ",
-                    Seconds(first, last),
-                    " s.</p>\n",
-                ),
             );
         }
     }

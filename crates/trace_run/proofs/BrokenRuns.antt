@@ -9,7 +9,7 @@ use Rattle.trace_log.proofs.Promises.{writes_to_failed_read}
 use Rattle.trace_run.specs.Ran.{command_of}
 use Rattle.trace_run.specs.Script.{GlimpseValue}
 use Rattle.trace_run.specs.declared.machine.Machine.{Ghosts as MachineGhosts}
-use Rattle.trace_run.specs.proving.Carrying.{Carries, blank_sheet}
+use Rattle.trace_run.specs.proving.Carrying.{HasSaid, blank_sheet}
 use Rattle.trace_run.specs.proving.Receiving.{RunState}
 use Rattle.trace_run.proofs.Carryings.{wrote_all, wrote_front}
 use Rattle.trace_run.proofs.Runs.{Begun, Fed, Answers, text, passes, old, each_passes}
@@ -25,7 +25,7 @@ module _ {A M W : Type 0} {machine : MachineGhosts M A} {target : TargetGhosts W
       let settings = begun.settings in
       let so_far = (taken settings begun.machine_start begun.is).1 in
       let carries =
-      subst (λ w. Carries target begun.state.target (text begun meanings) (blank_sheet false) w) (sym same) so_far.carried in
+      subst (λ w. HasSaid target begun.state.target (text begun meanings) (blank_sheet false) w) (sym same) so_far.carried in
       subst (Answers begun glimpse log given new) (sym is)
       (writes_to_failed_read (passes begun) (text begun) settings log given meanings (old begun) (target.taken new)
       (take given log) (drop given log) standing stood (sym (take-append-drop given log)) (each_passes begun meanings so_far.within)
@@ -38,7 +38,7 @@ module _ {A M W : Type 0} {machine : MachineGhosts M A} {target : TargetGhosts W
       let settings = begun.settings in
       let so_far = (taken settings begun.machine_start begun.is).1 in
       let carries =
-      subst (λ w. Carries target begun.state.target (text begun meanings) (blank_sheet true) w) (sym same) so_far.carried in
+      subst (λ w. HasSaid target begun.state.target (text begun meanings) (blank_sheet true) w) (sym same) so_far.carried in
       subst (Answers begun glimpse log given new) (sym is)
       (front_of_read (command_of machine glimpse begun.settings.rules begun.machine_start) MESSAGE_LIMIT settings log given fault.Read meanings
       (old begun) (target.taken new)

@@ -5,7 +5,7 @@ use Rattle.trace_io.proofs.Promises.{took_no_byte}
 use Rattle.trace_io.specs.Written.{HasFront}
 use Rattle.trace_io.specs.declared.device.Target.{Ghosts}
 use Rattle.trace_run.specs.declared.sheet.Sheet.{Sheet}
-use Rattle.trace_run.specs.proving.Carrying.{Carries, HasCarried, blank_sheet}
+use Rattle.trace_run.specs.proving.Carrying.{HasSaid, HasCarried, blank_sheet}
 use Rattle.trace_run.proofs.WrittenFronts.{written_all, front_longer}
 
 -- a text that was said, and found room behind what is gathered
@@ -31,9 +31,9 @@ is_blank sheet well blank = λ i. record { gathered = sym blank i; failed = sym 
 module _ {W : Type 0} (target : Ghosts W) where
   -- nothing was said to a sheet with nothing on it
   pub carries_at_start : (start : W) (sheet : Sheet) → target.failures start ≤ 2 ^ 62 → sheet.failed ≡ false → sheet.gathered ≡ []
-      → Carries target start [] sheet start
+      → HasSaid target start [] sheet start
   carries_at_start start sheet low well blank =
-      subst (λ p. Carries target start [] p start) (is_blank sheet well blank) (record {
+      subst (λ p. HasSaid target start [] p start) (is_blank sheet well blank) (record {
         low = low;
         gathered_some = λ some. absurd (omega arith);
         failed_some = λ is. absurd (cc is);
@@ -46,12 +46,12 @@ module _ {W : Type 0} (target : Ghosts W) where
       })
 
   -- what was said was written
-  pub wrote_all : (start now : W) (said : List ℕ) → Carries target start said (blank_sheet false) now
+  pub wrote_all : (start now : W) (said : List ℕ) → HasSaid target start said (blank_sheet false) now
       → target.taken now ≡ target.taken start ++ said
   wrote_all start now said carries = written_all (target.taken start) said (target.taken now) [] carries.written refl
 
   -- a front of what was said was written, whether writing failed or not
-  pub wrote_front : (start now : W) (said : List ℕ) (failed : Bool) → Carries target start said (blank_sheet failed) now
+  pub wrote_front : (start now : W) (said : List ℕ) (failed : Bool) → HasSaid target start said (blank_sheet failed) now
       → HasFront (target.taken start) said (target.taken now)
   wrote_front start now said true carries = carries.written
   wrote_front start now said false carries =
@@ -59,10 +59,10 @@ module _ {W : Type 0} (target : Ghosts W) where
 
   -- a text more was said, and is gathered behind what was
   pub gathered_more : (start now : W) (said text : List ℕ) (sheet : Sheet) (gathered_now : List ℕ) → gathered_now ≡ sheet.gathered ++ text
-      → Carries target start said sheet now
-      → Carries target start (said ++ text) (record sheet { gathered = gathered_now }) now
+      → HasSaid target start said sheet now
+      → HasSaid target start (said ++ text) (record sheet { gathered = gathered_now }) now
   gathered_more start now said text sheet gathered_now is so_far =
-      subst (λ gathered. Carries target start (said ++ text) (record sheet { gathered = gathered }) now) (sym is) (record {
+      subst (λ gathered. HasSaid target start (said ++ text) (record sheet { gathered = gathered }) now) (sym is) (record {
         low = so_far.low;
         gathered_some = some_more said text sheet.gathered so_far.gathered_some;
         failed_some = λ has. omega (arith, so_far.failed_some has, length-append said text);
@@ -76,12 +76,12 @@ module _ {W : Type 0} (target : Ghosts W) where
 
   -- a text more was said, and nothing of it is gathered, where writing had failed
   pub said_in_vain : (start now : W) (said text : List ℕ) (sheet : Sheet) → sheet.failed ≡ true
-      → Carries target start said sheet now
-      → Carries target start (said ++ text) sheet now
+      → HasSaid target start said sheet now
+      → HasSaid target start (said ++ text) sheet now
   said_in_vain start now said text sheet wrong carries =
-      let so_far : Carries target start said (record sheet { failed = true }) now =
-      subst (λ b. Carries target start said (record sheet { failed = b }) now) wrong carries in
-      subst (λ b. Carries target start (said ++ text) (record sheet { failed = b }) now) (sym wrong) (record {
+      let so_far : HasSaid target start said (record sheet { failed = true }) now =
+      subst (λ b. HasSaid target start said (record sheet { failed = b }) now) wrong carries in
+      subst (λ b. HasSaid target start (said ++ text) (record sheet { failed = b }) now) (sym wrong) (record {
         low = so_far.low;
         gathered_some = λ some. omega (arith, so_far.gathered_some some, length-append said text);
         failed_some = λ is. omega (arith, so_far.failed_some refl, length-append said text);
@@ -94,11 +94,11 @@ module _ {W : Type 0} (target : Ghosts W) where
       })
 
   -- what is gathered is let go, where writing had failed
-  pub let_go : (start now : W) (said : List ℕ) (sheet : Sheet) → sheet.failed ≡ true → Carries target start said sheet now
-      → Carries target start said (blank_sheet true) now
+  pub let_go : (start now : W) (said : List ℕ) (sheet : Sheet) → sheet.failed ≡ true → HasSaid target start said sheet now
+      → HasSaid target start said (blank_sheet true) now
   let_go start now said sheet wrong carries =
-      let so_far : Carries target start said (record sheet { failed = true }) now =
-      subst (λ b. Carries target start said (record sheet { failed = b }) now) wrong carries in
+      let so_far : HasSaid target start said (record sheet { failed = true }) now =
+      subst (λ b. HasSaid target start said (record sheet { failed = b }) now) wrong carries in
       record {
         low = so_far.low;
         gathered_some = λ some. absurd (omega arith);

@@ -1,12 +1,13 @@
 -- The counts of rules, with one message more.
 use Prim.Native.Nat.{zero, suc}
-use Rattle.std.proofs.Common.{◌≡◌, ◌≤◌, ◌||◌, Bool, true, false, ℕ, ◌+◌, List, [], ◌∷◌, ◌++◌, length, take, drop, get_or, set, replicate, Option, Some, None, option_map, inl, inr, arith, refl, ap, sym, ◌∙◌}
+use Rattle.std.proofs.Common.{◌≡◌, ◌≤◌, true, false, ℕ, ◌+◌, List, [], ◌∷◌, ◌++◌, length, take, drop, get_or, set}
+use Rattle.std.proofs.Common.{replicate, Option, Some, None, option_map, inl, inr, arith, refl, ap, sym, ◌∙◌}
 use Rattle.std.proofs.lemmas.Bool.{and_parts, cases_Bool, false≢true}
 use Rattle.std.proofs.lemmas.Grind.{common_steps}
 use Rattle.uds_exchange.specs.Judging.{one_more}
 use Rattle.uds_rules.specs.Legal.{AreApart, are_apart, is_apart_from}
 use Rattle.uds_rules.specs.Rule.{RuleValue, begins_with, is_spoken_of, rule_of, speaks_of}
-use Rattle.uds_rules.proofs.Promises.{apart_shares_no_message}
+use Rattle.uds_rules.proofs.Promises.{apart_shares_no_message, both_false}
 use Rattle.trace_run.specs.Spoken.{spoken_counts}
 use Rattle.trace_run.specs.proving.Speaking.{counts_more}
 
@@ -29,19 +30,17 @@ refilled rules message counts new is =
     whole ∙ is
 
 -- no count grows of a message that no rule speaks of
-pub unspoken_counts : (rules : List RuleValue) (message counts : List ℕ) → is_spoken_of rules message ≡ false → counts ≡ counts_more rules message counts
+pub unspoken_counts : (rules : List RuleValue) (message counts : List ℕ) → is_spoken_of rules message ≡ false
+    → counts ≡ counts_more rules message counts
 unspoken_counts [] message counts off = refl
 unspoken_counts (rule ∷ rules) message [] off = refl
 unspoken_counts (rule ∷ rules) message (count ∷ counts) off =
     let parts = both_false (speaks_of rule message) (is_spoken_of rules message) off in
     rw parts.0 (ap (λ l. count ∷ l) (unspoken_counts rules message counts parts.1))
-  where
-    both_false : (a b : Bool) → (a || b) ≡ false → (a ≡ false) × (b ≡ false)
-    both_false true b off = absurd (false≢true (sym off))
-    both_false false b off = (refl, off)
 
 -- a rule that is apart from others, and speaks of a message, is the only one
-others_silent : (rules : List RuleValue) (prefix message : List ℕ) → is_apart_from rules prefix ≡ true → begins_with prefix message ≡ true → is_spoken_of rules message ≡ false
+others_silent : (rules : List RuleValue) (prefix message : List ℕ) → is_apart_from rules prefix ≡ true
+    → begins_with prefix message ≡ true → is_spoken_of rules message ≡ false
 others_silent [] prefix message apart begins = refl
 others_silent (other ∷ rules) prefix message apart begins =
     let parts = and_parts (are_apart other.prefix prefix) (is_apart_from rules prefix) apart in
@@ -56,7 +55,8 @@ counted_at None counts = counts
 counted_at (Some place) counts = set counts place (one_more (get_or counts place 0))
 
 -- so that is what counts of a message
-pub counted_there : (rules : List RuleValue) → AreApart rules → (message counts : List ℕ) → counted_at (rule_of rules message) counts ≡ counts_more rules message counts
+pub counted_there : (rules : List RuleValue) → AreApart rules → (message counts : List ℕ)
+    → counted_at (rule_of rules message) counts ≡ counts_more rules message counts
 counted_there [] apart message counts = refl
 counted_there (rule ∷ rules) apart message [] = no_counts (rule_of (rule ∷ rules) message) where
   no_counts : (found : Option ℕ) → counted_at found [] ≡ []

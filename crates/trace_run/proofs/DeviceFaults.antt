@@ -6,7 +6,7 @@ use Rattle.trace_log.specs.declared.fault.Fault.TheVariants as fault
 use Rattle.trace_log.specs.Feeding.{CountsRead}
 use Rattle.trace_log.specs.Devices.{WroteTo}
 use Rattle.trace_log.specs.Failing.{FailedIf}
-use Rattle.trace_run.specs.proving.Carrying.{Carries, blank_sheet}
+use Rattle.trace_run.specs.proving.Carrying.{HasSaid, blank_sheet}
 use Rattle.trace_run.proofs.Carryings.{wrote_all}
 
 -- the fault that is answered is that of writing where writing failed, and else another
@@ -26,7 +26,7 @@ FollowsRead fault.Write answer = answer ≢ fault.Read
 
 -- the fault of the target is answered exactly where it failed
 pub writes_or_fails : {A W : Type 0} (target : Ghosts W) (start new : W) (answer : Fault) (said : List ℕ) (failed : Bool)
-    → Carries target start said (blank_sheet failed) new → FollowsWriting failed answer
+    → HasSaid target start said (blank_sheet failed) new → FollowsWriting failed answer
     → FailedIf {A = A} fault.Write (Err answer) (target.failures start) (target.failures new)
 writes_or_fails target start new answer said false carries apart =
     record { risen = λ is. (let same : answer ≡ fault.Write = cc in absurd (apart same)); same = λ _. carries.failures }
@@ -35,7 +35,7 @@ writes_or_fails target start new answer said true carries write =
 
 -- what was done with a target to which a text was carried, where writing failed or not
 pub wrote_to : {A W : Type 0} (target : Ghosts W) (start new : W) (result : Result A Fault) (said : List ℕ) (failed : Bool)
-    → Carries target start said (blank_sheet failed) new
+    → HasSaid target start said (blank_sheet failed) new
     → FailedIf fault.Write result (target.failures start) (target.failures new)
     → WroteTo target fault.Write result start new
 wrote_to {A = A} {W = W} target start new result said failed carries writes = record {
@@ -46,7 +46,7 @@ wrote_to {A = A} {W = W} target start new result said failed carries writes = re
   failed = writes;
 }
   where
-    left_alone : (failed : Bool) → Carries target start said (blank_sheet failed) new
+    left_alone : (failed : Bool) → HasSaid target start said (blank_sheet failed) new
         → result ≢ Err fault.Write → target.taken new ≡ target.taken start → new ≡ start
     left_alone true carries other same = absurd (omega (arith, carries.failures, writes.same other))
     left_alone false carries other same =

@@ -24,7 +24,7 @@ use Rattle.trace_run.specs.declared.machine.NoAnswer.{NoAnswer}
 use Rattle.trace_run.specs.declared.machine.NoAnswer.TheVariants as no_answer
 use Rattle.trace_run.specs.declared.sheet.Sheet.{Sheet}
 use Rattle.trace_run.specs.declared.telling.Telling.{Telling}
-use Rattle.trace_run.specs.proving.Carrying.{Carries, Says, Settles, blank_sheet}
+use Rattle.trace_run.specs.proving.Carrying.{HasSaid, Says, Settles, blank_sheet}
 use Rattle.trace_run.specs.proving.Ending.{EndsAnswering, EndsSaying, whole_since}
 use Rattle.trace_run.specs.proving.Telling.{AreWithin, HasTold, Start, said_since}
 use Rattle.trace_run.proofs.Carryings.{wrote_all, wrote_front}
@@ -122,12 +122,12 @@ module _ {A M W : Type 0} (machine : MachineGhosts M A) (target : TargetGhosts W
       → summary ≡ summary_of MESSAGE_LIMIT settings log meanings
       → Says target telling.sheet old ((machine.script start.rules start.machine).at_the_end (trace settings meanings) summary) sheet_then mid
       → Settles target sheet_then mid settled new
-      → Carries target start.target (whole_since machine target start settings log meanings) (blank_sheet (not settled)) new
+      → HasSaid target start.target (whole_since machine target start settings log meanings) (blank_sheet (not settled)) new
   carried_at_the_end telling sheet_then old mid new settled summary so_far is speaks settles =
       let T = trace settings meanings in
       let said = said_since machine start.rules start.machine T in
       let last = (machine.script start.rules start.machine).at_the_end T in
-      subst (λ s. Carries target start.target (said ++ last s) (blank_sheet (not settled)) new) is
+      subst (λ s. HasSaid target start.target (said ++ last s) (blank_sheet (not settled)) new) is
       (settles start.target (said ++ last summary) (speaks start.target said so_far.carried))
 
 -- there is one reason for no answer at the end

@@ -10,8 +10,8 @@ use Rattle.trace_log.proofs.Promises.{Begins}
 use Rattle.trace_run.specs.AnswersAndWrites.{WritesSaidEagerly}
 use Rattle.trace_run.specs.Script.{GlimpseValue}
 use Rattle.trace_run.specs.declared.machine.Machine.{Ghosts as MachineGhosts}
-use Rattle.trace_run.specs.proving.Carrying.{Carries, WritesOn, blank_sheet}
-use Rattle.trace_run.specs.proving.Ending.{EndsAs, GivesUp}
+use Rattle.trace_run.specs.proving.Carrying.{HasSaid, WritesOn, blank_sheet}
+use Rattle.trace_run.specs.proving.Ending.{EndsOn, GivesUp}
 use Rattle.trace_run.specs.proving.Receiving.{RunState, of_pairs, IsSureOf}
 use Rattle.trace_run.proofs.BrokenRuns.{answers_failed_read, answers_failed_write}
 use Rattle.trace_run.proofs.DeviceFaults.{FollowsRead, FollowsWriting}
@@ -25,7 +25,7 @@ use Rattle.trace_run.proofs.SaidFronts.{more_at_fault, only_more, writes_said_ea
 pub record EndsCarrying {W : Type 0} (target : TargetGhosts W) (old : W) (why answer : Fault) (new : W) : Type 0 where
   pub said : List ℕ
   pub failed : Bool
-  pub carried : Carries target old said (blank_sheet failed) new
+  pub carried : HasSaid target old said (blank_sheet failed) new
   pub writing : FollowsWriting failed answer
   pub reading : FollowsRead why answer
 
@@ -67,7 +67,7 @@ module _ {A M W : Type 0} {machine : MachineGhosts M A} {target : TargetGhosts W
     -- the fault is of no device: what is said before it is written, or that failed
     ends_written : (why : Fault) (said : List ℕ) → why ≢ fault.Write → why ≢ fault.Read
         → (answer ≢ fault.Read → FollowsRead why answer)
-        → EndsAs target why begun.state.target said answer new → EndsCarrying target begun.state.target why answer new
+        → EndsOn target why begun.state.target said answer new → EndsCarrying target begun.state.target why answer new
     ends_written why said not_write not_read follows (inl well) = record {
       said = said;
       failed = false;
@@ -104,7 +104,7 @@ module _ {A M W : Type 0} {machine : MachineGhosts M A} {target : TargetGhosts W
       said = text begun meanings;
       failed = false;
       carried =
-          subst (λ w. Carries target begun.state.target (text begun meanings) (blank_sheet false) w) (sym up.1)
+          subst (λ w. HasSaid target begun.state.target (text begun meanings) (blank_sheet false) w) (sym up.1)
           (taken begun.settings begun.machine_start begun.is).1.carried;
       writing = subst (λ f. f ≢ fault.Write) (sym up.0) (λ is. absurd (cc is));
       reading = up.0;
@@ -113,7 +113,7 @@ module _ {A M W : Type 0} {machine : MachineGhosts M A} {target : TargetGhosts W
       said = text begun meanings;
       failed = true;
       carried =
-          subst (λ w. Carries target begun.state.target (text begun meanings) (blank_sheet true) w) (sym up.1)
+          subst (λ w. HasSaid target begun.state.target (text begun meanings) (blank_sheet true) w) (sym up.1)
           (taken begun.settings begun.machine_start begun.is).1.carried;
       writing = up.0;
       reading = subst (λ f. f ≢ fault.Read) (sym up.0) (λ is. absurd (cc is));
@@ -136,7 +136,7 @@ module _ {A M W : Type 0} {machine : MachineGhosts M A} {target : TargetGhosts W
 
       -- another fault than refused memory is answered as itself, or as that of writing
       apart_from_memory : (why : Fault) (said : List ℕ) → why ≢ fault.Memory
-          → EndsAs target why begun.state.target said answer new
+          → EndsOn target why begun.state.target said answer new
           → answer ≢ fault.Memory
       apart_from_memory why said apart (inl well) = λ refused. apart (sym well.0 ∙ refused)
       apart_from_memory why said apart (inr wrong) = λ refused. absurd (cc (wrong.0, refused))

@@ -19,7 +19,7 @@ use Rattle.trace_log.proofs.Promises.{HaveCome, each_more, has_frame, have_come,
 use Rattle.trace_run.specs.AnswersAndWrites.{HasSomeToSay, WritesFrontOfSaid}
 use Rattle.trace_run.specs.Script.{GlimpseValue, said_of_frames}
 use Rattle.trace_run.specs.declared.machine.Machine.{Ghosts as MachineGhosts}
-use Rattle.trace_run.specs.proving.Carrying.{Carries, blank_sheet}
+use Rattle.trace_run.specs.proving.Carrying.{HasSaid, blank_sheet}
 use Rattle.trace_run.specs.proving.Ending.{SettlesAs}
 use Rattle.trace_run.specs.proving.Receiving.{RunState, HasStoppedAt}
 use Rattle.trace_run.proofs.Carryings.{wrote_front}
@@ -41,9 +41,9 @@ module _ {A M W : Type 0} {machine : MachineGhosts M A} {target : TargetGhosts W
         let of_frame = (script begun).of_frame in
         let at = stops settings begun.machine_start begun.is in
         let T = trace settings meanings in
-        let e = entry_in meanings at.stamped at.dir in (
+        let e = entry_in meanings at.stamped at.channel in (
           of_frame T e,
-          ap (said_of_frames of_frame) (trace_next settings meanings what at.stamped at.dir at.means at.direction)
+          ap (said_of_frames of_frame) (trace_next settings meanings what at.stamped at.channel at.means at.found)
               ∙ one_more_said of_frame T e,
         )
 
@@ -52,15 +52,15 @@ module _ {A M W : Type 0} {machine : MachineGhosts M A} {target : TargetGhosts W
     had_come =
         let settings = begun.settings in
         let at = stops settings begun.machine_start begun.is in
-        let next = trace_next settings meanings what at.stamped at.dir at.means at.direction in
+        let next = trace_next settings meanings what at.stamped at.channel at.means at.found in
         have_come (passes begun) settings log given meanings what place
         (each_passes begun (meanings ++ what ∷ []) (λ strict. subst (AllByRecursion AnnouncesWithin) (sym next)
-        (each_more (trace settings meanings) (entry_in meanings at.stamped at.dir) (at.stopped.within strict)
+        (each_more (trace settings meanings) (entry_in meanings at.stamped at.channel) (at.stopped.within strict)
         (at.stopped.reason.0 strict))))
 
     -- so a front of what is said of them was written
     writes_front : (failed : Bool) (why : Fault) (new : W) → counts_last why ≡ true
-        → Carries target begun.state.target (text begun meanings) (blank_sheet failed) new
+        → HasSaid target begun.state.target (text begun meanings) (blank_sheet failed) new
         → WritesFrontOfSaid (script begun) MESSAGE_LIMIT begun.settings log given why (old begun) (target.taken new)
     writes_front failed why new last carries =
         let more = goes_on in
@@ -102,4 +102,4 @@ module _ {A M W : Type 0} {machine : MachineGhosts M A} {target : TargetGhosts W
       let at = stops begun.settings begun.machine_start begun.is in
       let rules = begun.settings.rules in
       has_frame (λ T e. IsKeptOrMasked MESSAGE_LIMIT rules T e ⊎ machine.needs rules begun.machine_start T e) begun.settings log given
-      meanings what at.stamped at.dir place at.means at.direction at.stopped.reason.1
+      meanings what at.stamped at.channel place at.means at.found at.stopped.reason.1

@@ -1,6 +1,7 @@
 -- What a strict run answers where a first frame announces a message above the limit.
 use Rattle.std.proofs.Common.{Some, ℕ, true, List, arith, refl, sym, subst, Err, inl, inr}
 use Rattle.std.specs.Prelude.{min}
+use Rattle.isotp_receive.specs.Trace.{layout_in}
 use Rattle.isotp_receive.specs.declared.TheConstants.{MESSAGE_LIMIT}
 use Rattle.trace_io.specs.declared.device.Target.{Ghosts as TargetGhosts}
 use Rattle.trace_log.specs.LinesRead.{AreLinesRead}
@@ -25,6 +26,7 @@ module _ {A M W : Type 0} {machine : MachineGhosts M A} {target : TargetGhosts W
       → Fed machine target begun.state begun.settings.max_bytes log given (Err (fault.Oversize line announced)) now
       → SettlesAs target (fault.Oversize line announced) now.receiver.telling.sheet now.target answer new
       → Answers begun glimpse log given new answer
+  unfolding layout_in
   answers_oversize line announced (meanings, what, stops, place) settles =
       let settings = begun.settings in
       let at = stops settings begun.machine_start begun.is in
@@ -32,7 +34,7 @@ module _ {A M W : Type 0} {machine : MachineGhosts M A} {target : TargetGhosts W
       let same_line = at.stopped.reason.1 in
       let found = oversize_stops MESSAGE_LIMIT settings log given line announced meanings what place (omega arith)
       (each_within settings meanings (at.stopped.within strict))
-      (line_announces settings what at.stamped at.dir (Some announced) at.means at.direction at.stopped.reason.2) in
+      (line_announces settings what at.stamped at.channel (Some announced) at.means at.found at.stopped.reason.2) in
       let count = min given settings.max_bytes in
       let read : AreLinesRead (passing (machine.script settings.rules begun.machine_start).strict MESSAGE_LIMIT settings) true count log
       meanings =

@@ -5,7 +5,7 @@ use Rattle.trace_io.specs.declared.device.Target.{Ghosts}
 use Rattle.trace_run.specs.declared.sheet.Sheet.{Sheet}
 use Rattle.trace_log.specs.declared.fault.Fault.TheVariants.{Write}
 use Rattle.trace_run.specs.Printed.{Prints}
-use Rattle.trace_run.specs.proving.Carrying.{Carries, Says, Settles, blank_sheet}
+use Rattle.trace_run.specs.proving.Carrying.{HasSaid, Says, Settles, blank_sheet}
 use Rattle.trace_run.proofs.Carryings.{carries_at_start, wrote_all, wrote_front}
 use Rattle.trace_run.proofs.DeviceFaults.{wrote_to}
 
@@ -14,12 +14,12 @@ module _ {W : Type 0} (target : Ghosts W) (text : List ℕ) (old new : W) where
   pub settled_text : (mid : W) (sheet sheet_then : Sheet) (settled : Bool) → target.failures old ≤ 2 ^ 62 → sheet.failed ≡ false
       → sheet.gathered ≡ []
       → Says target sheet old text sheet_then mid → Settles target sheet_then mid settled new
-      → Carries target old text (blank_sheet (not settled)) new
+      → HasSaid target old text (blank_sheet (not settled)) new
   settled_text mid sheet sheet_then settled low well blank speaks settles =
       settles old text (speaks old [] (carries_at_start target old sheet low well blank))
 
   -- all of it was written
-  pub printed : Carries target old text (blank_sheet false) new → Prints {A = Unit {0}} target text old (Ok (tt {0})) new
+  pub printed : HasSaid target old text (blank_sheet false) new → Prints {A = Unit {0}} target text old (Ok (tt {0})) new
   printed carries = record {
     written = wrote_all target old new text carries;
     wrote = wrote_to target old new (Ok (tt {0})) text false carries
@@ -29,7 +29,7 @@ module _ {W : Type 0} (target : Ghosts W) (text : List ℕ) (old new : W) where
   }
 
   -- a front of it was written, and that failed
-  pub printed_front : Carries target old text (blank_sheet true) new → Prints {A = Unit {0}} target text old (Err Write) new
+  pub printed_front : HasSaid target old text (blank_sheet true) new → Prints {A = Unit {0}} target text old (Err Write) new
   printed_front carries = record {
     written = wrote_front target old new text true carries;
     wrote = wrote_to target old new (Err Write) text true carries

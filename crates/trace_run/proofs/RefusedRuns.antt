@@ -13,7 +13,7 @@ use Rattle.trace_run.specs.AnswersAndWrites.{WritesSaidAndRefusal}
 use Rattle.trace_run.specs.Ran.{command_of}
 use Rattle.trace_run.specs.Script.{GlimpseValue, refusal_of_lines, said_and_refusal_of_lines}
 use Rattle.trace_run.specs.declared.machine.Machine.{Ghosts as MachineGhosts}
-use Rattle.trace_run.specs.proving.Ending.{EndsAs, RefusesSaying, SettlesWith}
+use Rattle.trace_run.specs.proving.Ending.{EndsOn, RefusesSaying, SettlesWith}
 use Rattle.trace_run.specs.proving.Receiving.{RunState, HasTaken}
 use Rattle.trace_run.proofs.Carryings.{wrote_all, wrote_front}
 use Rattle.trace_run.proofs.Runs.{Begun, Fed, Answers, script, text, passes, old, each_passes}
@@ -35,7 +35,7 @@ module _ {A M W : Type 0} {machine : MachineGhosts M A} {target : TargetGhosts W
   -- so what is said of all lines and of the refusal is written, or that failed
   pub refuses_all : (why : Fault) (meanings : List (Option Stamped)) → HasTaken machine target begun.state meanings now
       → RefusesSaying machine target glimpse why now.receiver now.target answer new
-      → EndsAs target why begun.state.target
+      → EndsOn target why begun.state.target
       (said_and_refusal_of_lines (machine.script begun.settings.rules begun.machine_start)
       (machine.refusal begun.settings.rules begun.machine_start glimpse) MESSAGE_LIMIT begun.settings why meanings) answer new
   refuses_all why meanings taken up =

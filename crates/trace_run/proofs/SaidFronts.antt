@@ -10,8 +10,8 @@ use Rattle.trace_io.specs.declared.device.Target.{Ghosts}
 use Rattle.trace_log.specs.declared.fault.Fault.{Fault}
 use Rattle.trace_log.specs.declared.fault.Fault.TheVariants as fault
 use Rattle.trace_run.specs.declared.sheet.Sheet.{Sheet}
-use Rattle.trace_run.specs.proving.Carrying.{Carries}
-use Rattle.trace_run.specs.proving.Ending.{EndsAs}
+use Rattle.trace_run.specs.proving.Carrying.{HasSaid}
+use Rattle.trace_run.specs.proving.Ending.{EndsOn}
 use Rattle.trace_log.specs.LinesRead.{counts_last, AreGiven, AreLinesRead, AreReadBefore, WritesTextOfRead}
 use Rattle.trace_log.specs.Settings.{Settings}
 use Rattle.trace_log.specs.Summing.{summary_of}
@@ -154,13 +154,13 @@ module _ {A : Type 0} (of : Command A) (limit : ℕ) (settings : Settings) (log 
 
 -- what was written before stays
 pub only_more : {W : Type 0} {target : Ghosts W} {start now : W} {said : List ℕ} {sheet : Sheet}
-    → Carries target start said sheet now
+    → HasSaid target start said sheet now
     → Begins (target.taken start) (target.taken now)
 only_more carries = (carries.took.bytes, carries.took.grown)
 
 -- also where a run ends with a fault
 pub more_at_fault : {W : Type 0} {target : Ghosts W} (name answer : Fault) (start : W) (said : List ℕ) (new : W)
-    → EndsAs target name start said answer new
+    → EndsOn target name start said answer new
     → Begins (target.taken start) (target.taken new)
 more_at_fault name answer start said new (inl well) = only_more well.1
 more_at_fault name answer start said new (inr wrong) = only_more wrong.1

@@ -3,6 +3,8 @@ use Rattle.std.proofs.Common.{◌≡◌, ◌<◌, ◌^◌, ℕ, List, [], ◌∷
 use Rattle.direction.specs.Dir.{Message}
 use Rattle.direction.specs.declared.Dir.{Dir}
 use Rattle.isotp_receive.specs.declared.TheConstants.{MESSAGE_LIMIT}
+use Rattle.isotp_receive.specs.Channels.{dir_of}
+use Rattle.isotp_receive.specs.declared.channel.Channel.{Channel}
 use Rattle.isotp_receive.specs.EventSeen.{seen_event}
 use Rattle.isotp_receive.specs.Trace.{Entry}
 use Rattle.isotp_receive.specs.Verdict.{EventValue, VerdictValue, message, began, stored, flowed, dropped, messages, told_message, verdict}
@@ -61,27 +63,27 @@ completed rules d stored m is = absurd (cc is)
 completed rules d flowed m is = absurd (cc is)
 completed rules d (dropped reason) m is = absurd (cc is)
 
--- the message that a frame told, by its direction and what it did
-pub told_by : (T : List Entry) (e : Entry) (d : Dir) (event : EventValue) → e.dir ≡ d → event ≡ verdict MESSAGE_LIMIT T e
-    → told_message e.dir (verdict MESSAGE_LIMIT T e).verdict ≡ told_message d event.verdict
-told_by T e d event dir_is is =
-    ap (λ x. told_message x (verdict MESSAGE_LIMIT T e).verdict) dir_is
-    ∙ ap (λ (x : EventValue). told_message d x.verdict) (sym is)
+-- the message that a frame told, by its channel and what it did
+pub told_by : (T : List Entry) (e : Entry) (channel : Channel) (event : EventValue) → e.channel ≡ channel → event ≡ verdict MESSAGE_LIMIT T e
+    → told_message (dir_of e.channel) (verdict MESSAGE_LIMIT T e).verdict ≡ told_message (dir_of channel) event.verdict
+told_by T e channel event on is =
+    ap (λ c. told_message (dir_of c) (verdict MESSAGE_LIMIT T e).verdict) on
+    ∙ ap (λ (x : EventValue). told_message (dir_of channel) x.verdict) (sym is)
 
 module _ (rules : List RuleValue) (T : List Entry) (e : Entry) where
   -- the messages under rules of a trace with one more frame
-  pub messages_next : (d : Dir) (event : EventValue) → e.dir ≡ d → event ≡ verdict MESSAGE_LIMIT T e
+  pub messages_next : (channel : Channel) (event : EventValue) → e.channel ≡ channel → event ≡ verdict MESSAGE_LIMIT T e
       → messages_under rules MESSAGE_LIMIT (T ++ e ∷ [])
-      ≡ messages_under rules MESSAGE_LIMIT T ++ under rules (told_message d event.verdict)
-  messages_next d event dir_is is =
+      ≡ messages_under rules MESSAGE_LIMIT T ++ under rules (told_message (dir_of channel) event.verdict)
+  messages_next channel event on is =
       messages_under_more rules MESSAGE_LIMIT T e
-      ∙ ap (λ told. messages_under rules MESSAGE_LIMIT T ++ under rules told) (told_by T e d event dir_is is)
+      ∙ ap (λ told. messages_under rules MESSAGE_LIMIT T ++ under rules told) (told_by T e channel event on is)
 
   -- The frame e completed a message, of which rules made this one, behind those of the frames T; and this becomes of
   -- it.
   pub record CompletesJudged (judged : Judged) : Type 0 where
     pub next : messages_under rules MESSAGE_LIMIT (T ++ e ∷ []) ≡ messages_under rules MESSAGE_LIMIT T ++ sent judged ∷ []
-    pub dir : e.dir ≡ judged.dir
+    pub dir : dir_of e.channel ≡ judged.dir
     pub whole : List ℕ
     pub did : (verdict MESSAGE_LIMIT T e).verdict ≡ message whole
     pub made : made_of rules whole ≡ Some judged.bytes.now
@@ -90,11 +92,11 @@ module _ (rules : List RuleValue) (T : List Entry) (e : Entry) where
 
   module _ (seen : Seen) where
     -- those of a frame that is seen
-    next : (told : List Message) → IsEventOf T e seen.line seen.micros seen.dir seen.event
-        → under rules (told_message seen.dir (seen_event seen.event).verdict) ≡ told
+    next : (told : List Message) → IsEventOf T e seen.line seen.micros seen.channel seen.event
+        → under rules (told_message (dir_of seen.channel) (seen_event seen.event).verdict) ≡ told
         → messages_under rules MESSAGE_LIMIT (T ++ e ∷ []) ≡ messages_under rules MESSAGE_LIMIT T ++ told
     next told event is =
-        messages_next seen.dir (seen_event seen.event) event.dir event.did
+        messages_next seen.channel (seen_event seen.event) event.channel event.did
         ∙ ap (λ more. messages_under rules MESSAGE_LIMIT T ++ more) is
 
     -- a frame of whose message rules leave this
@@ -102,11 +104,11 @@ module _ (rules : List RuleValue) (T : List Entry) (e : Entry) where
     completes_judged judged is some =
         let M = messages_under rules MESSAGE_LIMIT T in
         let event = is.event in
-        let by = subst (IsJudgmentOf M (under rules (told_message seen.dir (seen_event seen.event).verdict))) some is.message in
-        let told = completed rules seen.dir (seen_event seen.event).verdict (sent judged) by.0 in
+        let by = subst (IsJudgmentOf M (under rules (told_message (dir_of seen.channel) (seen_event seen.event).verdict))) some is.message in
+        let told = completed rules (dir_of seen.channel) (seen_event seen.event).verdict (sent judged) by.0 in
         record {
           next = next (sent judged ∷ []) event by.0;
-          dir = event.dir ∙ told.dir;
+          dir = ap dir_of event.channel ∙ told.dir;
           whole = told.whole;
           did = ap (λ (x : EventValue). x.verdict) (sym event.did) ∙ told.completed;
           made = told.made;
@@ -116,11 +118,11 @@ module _ (rules : List RuleValue) (T : List Entry) (e : Entry) where
 
     -- of a frame of which rules leave no message none is told under rules
     pub tells_no_message : IsSeen rules T e seen → seen.message ≡ None
-        → under rules (told_message e.dir (verdict MESSAGE_LIMIT T e).verdict) ≡ []
+        → under rules (told_message (dir_of e.channel) (verdict MESSAGE_LIMIT T e).verdict) ≡ []
     tells_no_message is none =
-        ap (under rules) (told_by T e seen.dir (seen_event seen.event) is.event.dir is.event.did)
+        ap (under rules) (told_by T e seen.channel (seen_event seen.event) is.event.channel is.event.did)
         ∙ subst (IsJudgmentOf (messages_under rules MESSAGE_LIMIT T)
-        (under rules (told_message seen.dir (seen_event seen.event).verdict))) none is.message
+        (under rules (told_message (dir_of seen.channel) (seen_event seen.event).verdict))) none is.message
 
     -- such a frame leaves the messages as they were
     pub completes_none : IsSeen rules T e seen → seen.message ≡ None
@@ -128,12 +130,12 @@ module _ (rules : List RuleValue) (T : List Entry) (e : Entry) where
     completes_none is none =
         let M = messages_under rules MESSAGE_LIMIT T in
         next [] is.event
-        (subst (IsJudgmentOf M (under rules (told_message seen.dir (seen_event seen.event).verdict))) none is.message)
+        (subst (IsJudgmentOf M (under rules (told_message (dir_of seen.channel) (seen_event seen.event).verdict))) none is.message)
         ∙ append-nil M
 
     -- what is judged of a frame under rules is seen under them
-    pub seen_under : (shown : List Message) → IsEventOf T e seen.line seen.micros seen.dir seen.event
-        → shown ≡ under rules (told_message seen.dir (seen_event seen.event).verdict)
+    pub seen_under : (shown : List Message) → IsEventOf T e seen.line seen.micros seen.channel seen.event
+        → shown ≡ under rules (told_message (dir_of seen.channel) (seen_event seen.event).verdict)
         → IsJudgmentOf (messages_under rules MESSAGE_LIMIT T) shown seen.message → IsSeen rules T e seen
     seen_under shown event is judgment = record {
       event = event;

@@ -4,6 +4,7 @@ use Rattle.std.specs.Prelude.{if◌then◌else◌}
 use Rattle.direction.specs.Dir.{Message}
 use Rattle.direction.specs.declared.Dir.{Dir}
 use Rattle.isotp_receive.specs.declared.TheConstants.{MESSAGE_LIMIT}
+use Rattle.isotp_receive.specs.Channels.{dir_of}
 use Rattle.isotp_receive.specs.EventSeen.{seen_event}
 use Rattle.isotp_receive.specs.Trace.{Entry}
 use Rattle.isotp_receive.specs.Verdict.{EventValue, messages, told_message, verdict}
@@ -68,10 +69,10 @@ few_messages T few = (let at_most = messages_are_few MESSAGE_LIMIT T in omega (a
 
 -- what was counted with what a frame told is counted of the trace with that frame
 pub spoken_next : (page rules : List RuleValue) (T : List Entry) (e : Entry) (seen : Seen) (counts : List ℕ) → IsSeen rules T e seen
-    → counts ≡ spoken_counts page (messages MESSAGE_LIMIT T ++ told_message seen.dir (seen_event seen.event).verdict)
+    → counts ≡ spoken_counts page (messages MESSAGE_LIMIT T ++ told_message (dir_of seen.channel) (seen_event seen.event).verdict)
     → counts ≡ spoken_counts page (messages MESSAGE_LIMIT (T ++ e ∷ []))
 spoken_next page rules T e seen counts is more =
-    let told : told_message e.dir (verdict MESSAGE_LIMIT T e).verdict ≡ told_message seen.dir (seen_event seen.event).verdict =
-    ap (λ d. told_message d (verdict MESSAGE_LIMIT T e).verdict) is.event.dir
-    ∙ ap (λ (x : EventValue). told_message seen.dir x.verdict) (sym is.event.did) in
+    let told : told_message (dir_of e.channel) (verdict MESSAGE_LIMIT T e).verdict ≡ told_message (dir_of seen.channel) (seen_event seen.event).verdict =
+    ap (λ c. told_message (dir_of c) (verdict MESSAGE_LIMIT T e).verdict) is.event.channel
+    ∙ ap (λ (x : EventValue). told_message (dir_of seen.channel) x.verdict) (sym is.event.did) in
     more ∙ ap (λ l. spoken_counts page (messages MESSAGE_LIMIT T ++ l)) (sym told) ∙ ap (spoken_counts page) (sym (messages_more MESSAGE_LIMIT T e))

@@ -2,7 +2,7 @@
 use Rattle.std.proofs.Common.{Some, None, ◌≡◌, ℕ, ◌<◌, ◌≤◌, Bool, true, false, List, ◌++◌, length, refl, ap, sym, ◌∙◌, Option}
 use Rattle.can_log.specs.Log.{LogMeans}
 use Rattle.can_log.specs.declared.frame.Stamped.{Stamped}
-use Rattle.isotp_receive.specs.Trace.{Entry}
+use Rattle.isotp_receive.specs.Trace.{Entry, layout_in}
 use Rattle.isotp_receive.specs.Verdict.{EventValue, verdict}
 use Rattle.isotp_receive.specs.declared.TheConstants.{MESSAGE_LIMIT}
 use Rattle.trace_log.specs.declared.fault.Fault.TheVariants as fault
@@ -14,7 +14,6 @@ use Rattle.trace_log.specs.Trace.{trace}
 use Rattle.std.specs.List.{AllByRecursion}
 use Rattle.can_log.specs.Scanning.{Standing}
 use Rattle.can_log.specs.WholeLog.{StandsAfter}
-use Rattle.isotp_pdu.specs.Reading.{layout_of}
 use Rattle.isotp_receive.specs.Events.{oversize_in, too_long_in}
 use Rattle.isotp_receive.proofs.Promises.{too_long_is_announced}
 use Rattle.trace_log.specs.Answers.{ReadsWhile}
@@ -26,7 +25,7 @@ use Rattle.trace_log.specs.Refusal.{EachPasses}
 -- a frame for which a run stops announces so much, and the run is strict
 pub stopped_for : (strict : Bool) (T : List Entry) (e : Entry) (event : EventValue) (n : ℕ)
     → event ≡ verdict MESSAGE_LIMIT T e → oversize_for strict event.verdict ≡ Some n
-    → (strict ≡ true) × (oversize_in MESSAGE_LIMIT (layout_of e.frame) ≡ Some n)
+    → (strict ≡ true) × (oversize_in MESSAGE_LIMIT (layout_in e) ≡ Some n)
 stopped_for true T e event n seen is =
     (refl, sym (too_long_is_announced MESSAGE_LIMIT T e) ∙ sym (ap (λ (x : EventValue). too_long_in x.verdict) seen) ∙ is)
 stopped_for false T e event n seen is = absurd (cc)

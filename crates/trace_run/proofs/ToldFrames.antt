@@ -1,6 +1,7 @@
 -- What is said of one more frame that the machine is told, and what is then known of a telling.
 use Rattle.std.proofs.Common.{◌≡◌, ℕ, ◌+◌, Bool, true, false, List, [], ◌∷◌, ◌++◌, ap, sym, subst, ◌∙◌, inr, append-nil, append_assoc}
 use Rattle.std.specs.Prelude.{not}
+use Rattle.isotp_receive.specs.Channels.{dir_of}
 use Rattle.isotp_receive.specs.Trace.{Entry}
 use Rattle.isotp_receive.specs.Verdict.{messages, told_message, verdict}
 use Rattle.isotp_receive.specs.declared.TheConstants.{MESSAGE_LIMIT}
@@ -16,7 +17,7 @@ use Rattle.trace_log.specs.Messages.{messages_under}
 use Rattle.trace_run.specs.proving.Ruling.{HasJudged}
 use Rattle.trace_run.specs.declared.sheet.Sheet.{Sheet}
 use Rattle.trace_run.specs.declared.telling.Telling.{Telling}
-use Rattle.trace_run.specs.proving.Carrying.{Carries, Says, Settles}
+use Rattle.trace_run.specs.proving.Carrying.{HasSaid, Says, Settles}
 use Rattle.trace_run.proofs.Carryings.{is_blank}
 use Rattle.trace_run.specs.proving.Telling.{Start, said_since, HasStopped, HasTold, HasToldAndWritten}
 use Rattle.uds_exchange.specs.Judging.{IsJudgeOf}
@@ -44,12 +45,12 @@ one_more_said of_frame T e =
 -- what is judged and counted with the message of one more frame, of which rules showed this
 judged_next : (rules : List RuleValue) (T : List Entry) (e : Entry) (shown : List Message) (judge judge_now : Judge)
     (out out_now : ℕ)
-    → shown ≡ under rules (told_message e.dir (verdict MESSAGE_LIMIT T e).verdict) → HasJudged rules T judge out
+    → shown ≡ under rules (told_message (dir_of e.channel) (verdict MESSAGE_LIMIT T e).verdict) → HasJudged rules T judge out
     → IsJudgeOf (messages_under rules MESSAGE_LIMIT T ++ shown) judge_now
-    → out_now ≡ out + left_out rules (told_message e.dir (verdict MESSAGE_LIMIT T e).verdict)
+    → out_now ≡ out + left_out rules (told_message (dir_of e.channel) (verdict MESSAGE_LIMIT T e).verdict)
     → HasJudged rules (T ++ e ∷ []) judge_now out_now
 judged_next rules T e shown judge judge_now out out_now is so_far judged counted =
-    let told = told_message e.dir (verdict MESSAGE_LIMIT T e).verdict in
+    let told = told_message (dir_of e.channel) (verdict MESSAGE_LIMIT T e).verdict in
     record {
       judged =
           subst (λ M. IsJudgeOf M judge_now)
@@ -64,11 +65,11 @@ judged_next rules T e shown judge judge_now out out_now is so_far judged counted
 module _ {A M W : Type 0} (machine : MachineGhosts M A) (target : TargetGhosts W) (start : Start M W) (T : List Entry) where
   module _ (e : Entry) where
     -- it was told
-    pub tells_next : (shown : List Message) → shown ≡ under start.rules (told_message e.dir (verdict MESSAGE_LIMIT T e).verdict)
+    pub tells_next : (shown : List Message) → shown ≡ under start.rules (told_message (dir_of e.channel) (verdict MESSAGE_LIMIT T e).verdict)
         → (telling telling_now : Telling M) (old new : W) → HasTold machine target start T telling old
         → IsJudgeOf (messages_under start.rules MESSAGE_LIMIT T ++ shown) telling_now.judge
         → telling_now.ruling.left_out
-        ≡ telling.ruling.left_out + left_out start.rules (told_message e.dir (verdict MESSAGE_LIMIT T e).verdict)
+        ≡ telling.ruling.left_out + left_out start.rules (told_message (dir_of e.channel) (verdict MESSAGE_LIMIT T e).verdict)
         → machine.stands start.rules start.machine (T ++ e ∷ []) telling_now.machine
         → ((machine.script start.rules start.machine).strict ≡ true → AnnouncesWithin e)
         → Says target telling.sheet old ((machine.script start.rules start.machine).of_frame T e) telling_now.sheet new
@@ -80,7 +81,7 @@ module _ {A M W : Type 0} (machine : MachineGhosts M A) (target : TargetGhosts W
       machine_stands = stands;
       within = λ strict. each_more T e (so_far.within strict) (one strict);
       carried =
-          subst (λ text. Carries target start.target text telling_now.sheet new)
+          subst (λ text. HasSaid target start.target text telling_now.sheet new)
           (sym (one_more_said (machine.script start.rules start.machine).of_frame T e))
           (speaks start.target (said_since machine start.rules start.machine T) so_far.carried);
     }
@@ -94,7 +95,7 @@ module _ {A M W : Type 0} (machine : MachineGhosts M A) (target : TargetGhosts W
       within = so_far.within;
       reason = (one, inr needed);
       carried =
-          subst (λ text. Carries target start.target text telling_now.sheet new) (append-nil (said_since machine start.rules start.machine T))
+          subst (λ text. HasSaid target start.target text telling_now.sheet new) (append-nil (said_since machine start.rules start.machine T))
           (speaks start.target (said_since machine start.rules start.machine T) so_far.carried);
     }
 

@@ -7,7 +7,8 @@ use Rattle.trace_log.specs.declared.fault.Fault.TheVariants.{Write}
 use Rattle.trace_log.specs.Devices.{WroteTo}
 
 -- A target took all of a text, or a front of it where writing failed.
-pub record Prints {A W : Type 0} (target : Ghosts W) (text : List ℕ) (old : W) (result : Result A Fault) (new : W) : Type 0 where
+pub record Prints {A W : Type 0} (target : Ghosts W) (text : List ℕ) (old : W) (result : Result A Fault)
+    (new : W) : Type 0 where
   pub written : HasWritten result (target.taken old) text (target.taken new)
   pub wrote : WroteTo target Write result old new
   pub only : IfErr result (λ fault. fault ≡ Write)

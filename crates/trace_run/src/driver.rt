@@ -1,4 +1,5 @@
 //! A log that a machine is told: where a run reads, writes and fails.
+
 ghost use Rattle.std.specs.Prelude.{◌≡◌, List, [], Err, false};
 ghost use Rattle.isotp_receive.specs.Trace.{Entry};
 ghost use Rattle.trace_io.specs.Counted.{IsLowCount};
@@ -106,7 +107,8 @@ fn refuse<M: Machine, W: Target>(
     receiver: Receiver<'_, M, W>,
     target: &mut W,
 ) -> Fault
-    ensures { RefusesSaying M.Machine W.Target (glimpse_value glimpse.entry) why receiver.entry target.old result target.new }
+    ensures { RefusesSaying M.Machine W.Target (glimpse_value glimpse.entry) why receiver.entry target.old result
+        target.new }
 {
     let summary = receiver.summary(false);
     let Receiver { telling, .. } = receiver;

@@ -1,4 +1,5 @@
 //! The text that is gathered on a sheet, so that it is written in few pieces.
+
 ghost use Rattle.std.specs.Prelude.{◌≡◌, ◌+◌, ◌<◌, ◌≤◌, [], ◌++◌, length, take, true, false};
 
 use can_log::LONGEST_LINE;

@@ -5,7 +5,8 @@
 //! ```
 //!
 //! A [`Machine`] is what a caller writes. It is handed what each frame did, and the message that it completed, as one
-//! [`Seen`], beside a sheet as its sink. This one says a dot for each message, and answers the counts:
+//! [`Seen`], beside a sheet as its sink. This one, of which the `use` lines and `dots` are left out, says a dot for each
+//! message, and answers the counts:
 //!
 //! ```text
 //! impl Machine for Dots {

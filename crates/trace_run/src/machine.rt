@@ -1,4 +1,5 @@
 //! A command as a machine: what it says of each frame of a log, and at the end or of a refusal.
+
 ghost use Rattle.std.specs.Prelude.{◌≡◌, List, [], ◌∷◌, ◌++◌, OnOk, OnErr, Result};
 ghost use Rattle.isotp_receive.specs.declared.TheConstants.{MESSAGE_LIMIT};
 ghost use Rattle.isotp_receive.specs.StandingReception.{receptions_after};
@@ -10,8 +11,7 @@ ghost use Rattle.trace_run.specs.declared.machine.NoAnswer.{NoAnswer as NoAnswer
 ghost use Rattle.trace_log.specs.declared.fault.Fault.TheVariants.{OutputLimit};
 ghost use Rattle.trace_log.specs.declared.summary.Summary.{Summary as SummaryValue};
 
-use direction::Dir;
-use isotp_receive::{Event, Pair};
+use isotp_receive::{Channel, Event, Pair};
 use std::alloc::AllocError;
 use trace_io::{Source, TextSink};
 use trace_log::{Fault, Summary};
@@ -84,8 +84,8 @@ pub struct Seen<'a> {
     pub line: u64,
     /// Its time in microseconds.
     pub micros: u64,
-    /// Its direction: which side sent it.
-    pub dir: Dir,
+    /// Its channel: which side sent it, to the other one or to all.
+    pub channel: Channel,
     /// What it did to the receptions.
     pub event: Event<'a>,
     /// What rules leave of the message that it completed, if it completed one and they leave it, with what becomes of

@@ -1,4 +1,5 @@
 //! A target for machines that say nothing.
+
 ghost use Rattle.std.specs.Prelude.{None, [], false};
 
 use trace_io::{DeviceFault, Target};

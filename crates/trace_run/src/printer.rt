@@ -1,4 +1,5 @@
 //! A text that is known as a whole, written by way of a sheet of its own.
+
 ghost use Rattle.trace_run.specs.Printed.{Prints};
 ghost use Rattle.trace_run.specs.proving.Carrying.{Says};
 ghost use Rattle.trace_io.specs.Counted.{IsLowCount};

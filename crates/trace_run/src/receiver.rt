@@ -1,5 +1,7 @@
 //! The frames of a log received: what each does, and what is counted and summed up.
+
 ghost use Rattle.std.specs.Prelude.{◌≡◌, List, IfErr};
+ghost use Rattle.isotp_receive.specs.Channels.{dir_of};
 ghost use Rattle.isotp_receive.specs.EventSeen.{seen_event};
 ghost use Rattle.isotp_receive.specs.Events.{unfinished_in};
 ghost use Rattle.isotp_receive.specs.StandingReception.{receptions_after};
@@ -13,7 +15,7 @@ use crate::machine::Machine;
 use crate::telling::{FrameEvent, Telling, count_and_tell};
 use can_log::{Stamped, Wanted};
 use direction::Dir;
-use isotp_receive::{Event, Pair, Verdict};
+use isotp_receive::{Channel, Event, Pair, Verdict};
 use std::marker::PhantomData;
 use trace_io::Target;
 use trace_log::{Config, Fault, LineTaker, Summary};
@@ -89,6 +91,7 @@ impl<'a, M, W> Receiver<'a, M, W> {
 
 impl<'a, M: Machine, W: Target> LineTaker for Receiver<'a, M, W> {
     ghost use Rattle.std.specs.Prelude.{◌≡◌, true, false};
+    ghost use Rattle.trace_log.specs.Settings.{wanted_of};
     ghost use Rattle.trace_run.specs.proving.Receiving.{HasSettled, HasStoppedAt, HasTaken, IsSureOf};
     ghost use Rattle.trace_run.specs.proving.Receiving.{of_pairs, stop_of_pairs};
 
@@ -105,7 +108,7 @@ impl<'a, M: Machine, W: Target> LineTaker for Receiver<'a, M, W> {
     ghost sure = { of_pairs (IsSureOf M.Machine W.Target) };
 
     // Of a receiver, the identifiers of the frames that it wants.
-    ghost wants = { λ receiver first second. (first ≡ receiver.config.now.tester) × (second ≡ receiver.config.now.unit) };
+    ghost wants = { λ receiver wanted. wanted ≡ wanted_of receiver.config.now };
 
     #[inline(always)]
     fn wanted(&self) -> Option<&Wanted> {
@@ -126,19 +129,19 @@ impl<'a, M: Machine, W: Target> LineTaker for Receiver<'a, M, W> {
         let Some(stamped) = what else {
             return Ok(());
         };
-        let Some(dir) = self.config.direction_of(stamped.frame.id()) else {
+        let Some(channel) = self.config.channel_by(stamped.frame.id()) else {
             return Ok(());
         };
-        self.receive(device, line, dir, stamped)
+        self.receive(device, line, channel, stamped)
     }
 }
 
 impl<'a, M: Machine, W: Target> Receiver<'a, M, W> {
     ghost use Rattle.std.specs.Prelude.{◌≡◌, ◌^◌, ◌<◌, List, [], ◌∷◌, ◌++◌, length, OnOk, IfErr};
-    ghost use Rattle.isotp_pdu.specs.Reading.{layout_of};
     ghost use Rattle.isotp_receive.specs.Capacities.{CapacitiesGrow};
     ghost use Rattle.isotp_receive.specs.StandingReception.{receptions_after};
-    ghost use Rattle.isotp_receive.specs.Trace.{Entry};
+    ghost use Rattle.isotp_receive.specs.Channels.{dir_of};
+    ghost use Rattle.isotp_receive.specs.Trace.{Entry, layout_in};
     ghost use Rattle.isotp_receive.specs.Verdict.{verdict};
     ghost use Rattle.isotp_receive.specs.declared.TheConstants.{MESSAGE_LIMIT};
     ghost use Rattle.trace_log.specs.Feeding.{IsOfTaker};
@@ -146,35 +149,39 @@ impl<'a, M: Machine, W: Target> Receiver<'a, M, W> {
     ghost use Rattle.trace_log.specs.proving.Receiving.{entry_at};
     ghost use Rattle.trace_run.specs.proving.Telling.{TellsFrame};
 
-    /// Takes one more frame of a direction. A pair asks for memory only where the frame's bytes are kept for a message
+    /// Takes one more frame of a channel. A pair asks for memory only where the frame's bytes are kept for a message
     /// of several frames.
     fn receive(
         &mut self,
         target: &mut W,
         line: u64,
-        dir: Dir,
+        channel: Channel,
         stamped: &Stamped,
     ) -> Result<(), Fault>
         ensures same { (self.new.config.now ≡ self.old.config.now) × (self.new.lines ≡ self.old.lines) }
         ensures fault { IfErr result IsOfTaker }
         ensures pair { OnOk result ((T : List Entry) → self.old.pair.receptions ≡ receptions_after MESSAGE_LIMIT T
-            → self.new.pair.receptions ≡ receptions_after MESSAGE_LIMIT (T ++ entry_at line stamped.now dir ∷ [])) }
+            → self.new.pair.receptions ≡ receptions_after MESSAGE_LIMIT (T ++ entry_at line stamped.now channel ∷ [])) }
         ensures grew { OnOk result
-            (CapacitiesGrow MESSAGE_LIMIT dir (layout_of stamped.now.frame) self.old.pair self.new.pair) }
+            (CapacitiesGrow MESSAGE_LIMIT (dir_of channel) (layout_in (entry_at line stamped.now channel))
+            self.old.pair self.new.pair) }
         ensures counts { OnOk result ((T : List Entry) → self.old.pair.receptions ≡ receptions_after MESSAGE_LIMIT T
             → self.new.counts
-            ≡ counted_more dir (verdict MESSAGE_LIMIT T (entry_at line stamped.now dir)) self.old.counts) }
+            ≡ counted_more (dir_of channel) (verdict MESSAGE_LIMIT T (entry_at line stamped.now channel)) self.old.counts) }
         ensures told { (T : List Entry) → self.old.pair.receptions ≡ receptions_after MESSAGE_LIMIT T
-            → length T < 2 ^ 62 → TellsFrame M.Machine W.Target self.old.config.now.rules T (entry_at line stamped.now dir)
+            → length T < 2 ^ 62 → TellsFrame M.Machine W.Target self.old.config.now.rules T (entry_at line stamped.now channel)
             self.old.telling target.old result self.new.telling target.new }
     {
         // A `match`, here and in `Telling::take`: `?` in both cost 23 to 27 instructions a line (docs/PERF.md).
-        match self.pair.accept(line, stamped.micros, dir, &stamped.frame) {
+        match self
+            .pair
+            .accept(line, stamped.micros, channel, &stamped.frame)
+        {
             Ok(event) => {
                 let frame = FrameEvent {
                     line,
                     micros: stamped.micros,
-                    dir,
+                    channel,
                     event,
                 };
                 hand_on(
@@ -202,7 +209,7 @@ fn hand_on<M: Machine, W: Target>(
     frame: FrameEvent<'_>,
 ) -> Result<(), Fault>
     ensures fault { IfErr result IsOfTaker }
-    ensures counts { counts.new ≡ counted_more frame.entry.dir (seen_event frame.entry.event) counts.old }
+    ensures counts { counts.new ≡ counted_more (dir_of frame.entry.channel) (seen_event frame.entry.event) counts.old }
     ensures told { TellsEvent M.Machine W.Target config.now.rules frame.entry
         telling.old target.old result telling.new target.new }
 {

@@ -1,4 +1,5 @@
 //! Messages under rules: how many are left out, and the copy of one that is masked.
+
 ghost use Rattle.std.specs.Prelude.{◌≡◌, ◌+◌, ◌^◌, ◌<◌, List, true, is_none, option_map, IfOk, OnOk, OnErr};
 ghost use Rattle.direction.specs.declared.Dir.{Dir as DirValue};
 ghost use Rattle.isotp_receive.specs.EventSeen.{seen_verdict};
@@ -33,7 +34,7 @@ impl Ruling {
     }
 
     /// Has the rules make what they make of the message that a frame completed, if it completed one. Without rules this
-    /// is one test of each message.
+    /// is one test of each message, and of one whose first byte no rule begins with it is one more.
     #[inline(always)]
     pub(crate) fn take(
         &mut self,
@@ -46,6 +47,7 @@ impl Ruling {
             ≡ self.old.left_out + left_out config.now.rules (told_message d (seen_verdict verdict.entry))) }
         ensures err { OnErr result (IsMaskedVerdict config.now.rules (seen_verdict verdict.entry)) }
     {
+        // A `match` here and below, as in `Receiver::receive`: returned as it is, the answer is read by a covering load.
         match verdict {
             Verdict::Message(message) => match self.rule(config, message) {
                 Ok(ruled) => Ok(ruled),
@@ -57,7 +59,7 @@ impl Ruling {
         }
     }
 
-    /// The same of a message.
+    /// Has the rules make of a message what they make of it.
     #[inline(always)]
     fn rule(&mut self, config: &Config, message: &[u8]) -> Result<Ruled, AllocError>
         ensures ok { IfOk result (λ ruled.
@@ -67,7 +69,7 @@ impl Ruling {
         ensures err { OnErr result (is_masked config.now.rules message.now ≡ true) }
     {
         let rules = config.rules();
-        if rules.is_empty() {
+        if !rules.may_speak_of(message) {
             return Ok(Ruled::AsItIs);
         }
         match self.apply(rules, message) {
@@ -76,7 +78,8 @@ impl Ruling {
         }
     }
 
-    /// The same by these rules. It is a call of its own, so that what most logs do without is not in line.
+    /// Applies these rules to a message, and counts it if they leave it out. It is a call of its own, so that what most
+    /// logs do without is not inlined.
     #[inline(never)]
     fn apply(&mut self, rules: &Rules, message: &[u8]) -> Result<Ruled, AllocError>
         ensures ok { IfOk result (λ ruled.

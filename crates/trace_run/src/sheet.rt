@@ -1,4 +1,5 @@
 //! The sheet that text is gathered on, between a machine and the target.
+
 ghost use Rattle.std.specs.Prelude.{◌≡◌, ◌+◌, ◌^◌, ◌≤◌, [], ◌++◌, MatchResult};
 ghost use Rattle.trace_io.specs.Stream.{Took};
 ghost use Rattle.trace_io.specs.Written.{HasWritten};
@@ -17,7 +18,7 @@ pub(crate) struct Sheet {
 
 impl Sheet {
     ghost use Rattle.std.specs.Prelude.{◌≡◌, ◌<◌, ◌≤◌, ◌^◌, ℕ, List, [], ◌++◌, length, true, false};
-    ghost use Rattle.trace_run.specs.proving.Carrying.{Carries, Says, Settles, SaysNoMore};
+    ghost use Rattle.trace_run.specs.proving.Carrying.{HasSaid, Says, Settles, SaysNoMore};
 
     /// A sheet with nothing on it.
     pub(crate) fn new() -> Sheet
@@ -137,7 +138,7 @@ impl Sheet {
         ensures well { result ≡ true → self.now.failed ≡ false }
         ensures low { result ≡ true → W.failures target.now ≤ 2 ^ 62 }
         ensures wrong { result ≡ false → (start : W) (said : List ℕ)
-            → Carries W.Target start said self.now target.now → self.now.failed ≡ true }
+            → HasSaid W.Target start said self.now target.now → self.now.failed ≡ true }
     {
         !self.failed && target.failures() <= MOST_FAILURES
     }

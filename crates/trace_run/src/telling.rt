@@ -1,7 +1,9 @@
 //! A machine beside the judge of the messages and the sheet for its text: it is told what each frame did.
+
 ghost use Rattle.std.specs.Prelude.{◌≡◌, ◌^◌, ◌<◌, List, [], ◌∷◌, ◌++◌, length, option_map, IfErr, OnOk, OnErr};
 ghost use Rattle.direction.specs.Dir.{Message};
 ghost use Rattle.isotp_receive.specs.declared.TheConstants.{MESSAGE_LIMIT};
+ghost use Rattle.isotp_receive.specs.Channels.{dir_of};
 ghost use Rattle.isotp_receive.specs.EventSeen.{seen_event, seen_verdict};
 ghost use Rattle.isotp_receive.specs.Events.{announced_by};
 ghost use Rattle.isotp_receive.specs.StandingReception.{receptions_after};
@@ -20,19 +22,19 @@ use crate::machine::{Glimpse, Machine, NoAnswer, Seen};
 use crate::ruling::Ruling;
 use crate::sheet::{Sheet, SheetSink};
 use direction::Dir;
-use isotp_receive::{Event, Pair, Reason, Verdict};
+use isotp_receive::{Channel, Event, Pair, Reason, Verdict};
 use std::alloc::{AllocError, Global};
 use trace_io::Target;
 use trace_log::{Config, Fault, Summary};
 use uds_exchange::{Judge, Judged};
 
-/// What a frame did, with its line, its time in microseconds and its direction: a [`Seen`] whose message is under no
+/// What a frame did, with its line, its time in microseconds and its channel: a [`Seen`] whose message is under no
 /// rules and not judged yet.
 #[derive(Clone, Copy)]
 pub(crate) struct FrameEvent<'a> {
     pub line: u64,
     pub micros: u64,
-    pub dir: Dir,
+    pub channel: Channel,
     pub event: Event<'a>,
 }
 
@@ -93,7 +95,7 @@ impl<M: Machine> Telling<M> {
         let FrameEvent {
             line,
             micros,
-            dir,
+            channel,
             event,
         } = frame;
         match oversize_for(self.machine.is_strict(), event.verdict) {
@@ -101,11 +103,11 @@ impl<M: Machine> Telling<M> {
             None => match self.ruling.take(config, event.verdict) {
                 Ok(ruled) => {
                     let shown = self.ruling.shown(event.verdict, ruled);
-                    let message = judged_message(&mut self.judge, dir, shown);
+                    let message = judged_message(&mut self.judge, channel.dir(), shown);
                     let seen = Seen {
                         line,
                         micros,
-                        dir,
+                        channel,
                         event,
                         message,
                     };
@@ -130,11 +132,11 @@ pub(crate) fn count_and_tell<M: Machine, W: Target>(
     frame: FrameEvent<'_>,
 ) -> Result<(), Fault>
     ensures fault { IfErr result IsOfTaker }
-    ensures counts { counts.new ≡ counted_more frame.entry.dir (seen_event frame.entry.event) counts.old }
+    ensures counts { counts.new ≡ counted_more (dir_of frame.entry.channel) (seen_event frame.entry.event) counts.old }
     ensures told { TellsEvent M.Machine W.Target config.now.rules frame.entry
         telling.old target.old result telling.new target.new }
 {
-    counts.count(frame.dir, frame.event);
+    counts.count(frame.channel.dir(), frame.event);
     telling.take(config, target, frame)
 }
 
@@ -178,7 +180,8 @@ fn announced_by(reason: Reason) -> Option<u32>
         | Reason::NextUnexpected
         | Reason::NextLate
         | Reason::NextSequence { .. }
-        | Reason::NextLength => None,
+        | Reason::NextLength
+        | Reason::FunctionalNotSingle => None,
     }
 }
 

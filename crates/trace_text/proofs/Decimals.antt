@@ -7,8 +7,8 @@ use Rattle.std.proofs.lemmas.Fmt.{decimal_step, decimal_digit}
 use Rattle.can_log.specs.Digits.{digit, digits}
 use Rattle.can_log.specs.Digits as digits
 
--- a digit of a number
-digit_is : (n : ℕ) → 48 + n % 10 ≡ digit (n % 10)
+-- the last digit of a number
+pub digit_is : (n : ℕ) → 48 + n % 10 ≡ digit (n % 10)
 digit_is n = ap (λ (small : Bool). if small then 48 + n % 10 else 65 + (n % 10 - 10)) (sym (lt-ltb (n % 10) 10 (omega arith)))
 
 -- the last digit, and those before it

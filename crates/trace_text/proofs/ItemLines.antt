@@ -1,8 +1,9 @@
 -- The lines of items, one after another.
-use Rattle.std.proofs.Common.{◌≡◌, ℕ, ◌+◌, ◌<◌, List, [], ◌∷◌, ◌++◌, length, take, arith, ap, ap₂, sym, refl, ◌∙◌, append_assoc, append-nil, length-take, Some, None}
+use Rattle.std.proofs.Common.{◌≡◌, ℕ, ◌+◌, List, [], ◌∷◌, ◌++◌, length, take, arith, ap, ap₂, sym, refl, ◌∙◌}
+use Rattle.std.proofs.Common.{append_assoc, append-nil, length-take, Some}
 use Rattle.std.specs.Prelude.{slice_get}
 use Rattle.std.proofs.lemmas.List.{take_more}
-use Rattle.std.proofs.lemmas.Option.{slice_get_within, get_or_from_slice_get, slice_get-get_or, none-some}
+use Rattle.std.proofs.lemmas.Option.{slice_get_within, get_or_from_slice_get}
 use Rattle.uds_exchange.specs.Meaning.{ItemValue}
 use Rattle.uds_rules.specs.Rule.{RuleValue}
 use Rattle.trace_text.specs.declared.item_style.ItemStyle.{ItemStyle}
@@ -54,8 +55,3 @@ pub unnumbered_lists_join : UnnumberedListsJoin
 unnumbered_lists_join rules notation xs ys =
     let style = unnumbered_style notation in
     lines-append rules style 1 xs ys ∙ ap (λ l. list_text rules style xs ++ l) (unnumbered rules notation (1 + length xs) 1 ys)
-
--- there is an item at each place before the end
-pub is_there : {X : Type 0} (items : List X) (i : ℕ) → i < length items → slice_get items i ≡ None → ⊥
-is_there [] i within is = absurd (omega arith)
-is_there (x ∷ items) i within is = none-some _ (sym is ∙ slice_get-get_or (x ∷ items) i x within)

@@ -1,4 +1,4 @@
-pub mod OneMore
+pub mod Lists
 pub mod JoinedTexts
 pub mod NumberedNames
 pub mod Pairs

@@ -4,10 +4,12 @@ use lib.Ieee.Fits.{and_l, and_r}
 use Rattle.can_log.specs.Digits.{digit, digits, decimal}
 use Rattle.trace_text.specs.declared.digits.TheConstants.{PAIRS}
 
+-- the table has two digits of each number below a bound
 abbrev are_pairs : ℕ → Bool
 are_pairs zero = true
 are_pairs (suc p) = (eqb (get_or PAIRS (2 * p) 0) (digit (p / 10 % 10)) && eqb (get_or PAIRS (2 * p + 1) 0) (digit (p % 10))) && are_pairs p
 
+-- and so of each of these numbers
 below : (n p : ℕ) → T (are_pairs n) → p < n → (get_or PAIRS (2 * p) 0 ≡ digit (p / 10 % 10)) × (get_or PAIRS (2 * p + 1) 0 ≡ digit (p % 10))
 below zero p t h = absurd (omega arith)
 below (suc n) p t h =

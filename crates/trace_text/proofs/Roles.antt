@@ -6,7 +6,7 @@ use Rattle.uds_exchange.specs.Laws.{role_of_step}
 use Rattle.uds_exchange.specs.Roles.{MessageRole, as_request, as_answer, as_removed, as_stray}
 use Rattle.uds_exchange.specs.declared.step.Step.{Step}
 use Rattle.uds_exchange.specs.declared.step.Step.TheVariants as becomes
-use Rattle.trace_text.specs.Laws.{RolesDiffer}
+use Rattle.trace_text.specs.Laws.{RolesHaveTexts}
 use Rattle.trace_text.specs.Words.{role_text}
 
 -- the role that a text names, by the letter with which it begins
@@ -40,8 +40,8 @@ told becomes.Removed = refl
 told becomes.Hold = refl
 told becomes.Pass = refl
 
-pub roles_differ : RolesDiffer
-roles_differ one other = (
+pub roles_have_texts : RolesHaveTexts
+roles_have_texts one other = (
   λ same. sym (named one) ∙ (ap named_role same ∙ named other),
   λ same. sym (told one) ∙ (ap text_of_role same ∙ told other),
 )

@@ -16,7 +16,7 @@ use Rattle.uds_rules.specs.Rule.{RuleValue, speaks_of, is_spoken_of, made_by, ma
 use Rattle.uds_rules.specs.declared.rule.Deed.{Deed}
 use Rattle.uds_rules.specs.declared.rule.Deed.TheVariants as deed
 use Rattle.trace_text.specs.RuledLaws.{IsLeft, NoRulesMarkNothing, UnspokenIsNotMarked, EqualMessagesHaveEqualTexts}
-use Rattle.trace_text.specs.RuledText.{place_text, end_text, places_text, masked_text, text_by, ruled_text}
+use Rattle.trace_text.specs.RuledText.{place_text, text_behind, places_text, masked_text, text_by, ruled_text}
 use Rattle.trace_text.specs.Words.{bytes_text}
 use Rattle.trace_text.proofs.TextWords.{IsWord, is_in_word, bytes_word, pair_word}
 
@@ -105,11 +105,11 @@ star_read true = refl
 star_read false = refl
 
 -- what stands behind the places, where what follows is cut off, is nothing
-cut_read : (bytes : List ℕ) → [] ≡ bytes → read (end_text true bytes) ≡ bytes
+cut_read : (bytes : List ℕ) → [] ≡ bytes → read (text_behind true bytes) ≡ bytes
 cut_read [] is = refl
 cut_read (byte ∷ bytes) is = absurd (cc is)
 
-whole_read : (bytes : List ℕ) → AreBytes bytes → read (end_text false bytes) ≡ bytes
+whole_read : (bytes : List ℕ) → AreBytes bytes → read (text_behind false bytes) ≡ bytes
 whole_read bytes small = bytes_read bytes [] small ∙ append-nil bytes
 
 place_read : (is_masked : Bool) (byte : ℕ) (rest : List ℕ) → byte < 256 → (if is_masked then 0 else byte) ≡ byte

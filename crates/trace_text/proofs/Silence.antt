@@ -6,13 +6,16 @@ use Rattle.trace_text.specs.Json.{string, Members, nothing, member}
 use Rattle.trace_text.specs.Json as json
 use Rattle.trace_text.specs.Laws.{SilenceWasAskedFor, SilenceWasAskedForInJson}
 
+-- the word for a request without an answer, which asked for none or not
 abbrev told : Bool → List ℕ
 told asked = if asked then codes "silent" else codes "unanswered"
 
+-- it is *silent* exactly where the request asked for none
 told_by : (asked : Bool) → (told asked ≡ codes "silent") ↔ (asked ≡ true)
 told_by true = (λ same. refl, λ is. refl)
 told_by false = (λ same. absurd (cc (ap length same)), λ is. absurd (cc))
 
+-- the member that tells a word
 abbrev members : List ℕ → Members
 members word = member (codes "outcome") (json.string word) nothing
 
@@ -26,9 +29,11 @@ word (member key (json.number n) later) = codes ""
 word (member key (json.pair one other) later) = codes ""
 word (member key (json.object inner) later) = codes ""
 
+-- in words
 pub silence_was_asked_for : SilenceWasAskedFor
 silence_was_asked_for rules request = told_by (is_suppressing request)
 
+-- and as JSON
 pub silence_was_asked_for_in_json : SilenceWasAskedForInJson
 silence_was_asked_for_in_json rules request = (
   λ same. (told_by (is_suppressing request)).0 (ap word same),

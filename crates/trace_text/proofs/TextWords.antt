@@ -16,16 +16,19 @@ use Rattle.trace_text.specs.Words.{bytes_text, service_text, code_text}
 abbrev pub is_in_word : ℕ → Bool
 is_in_word b = nat_le 42 b && not (b == 92)
 
+-- a text of such bytes
 abbrev pub IsWord : List ℕ → Type 0
 IsWord bytes = AllByRecursion (λ b. is_in_word b ≡ true) bytes
 
 high_in_word : (b : ℕ) → is_in_word b ≡ true → 42 ≤ b
 high_in_word b is = grind (arith, nat_tests)
 
+-- the first byte of a text; 0 where it has none
 abbrev pub first_of : List ℕ → ℕ
 first_of [] = 0
 first_of (b ∷ rest) = b
 
+-- the bytes behind it
 abbrev pub rest_of : List ℕ → List ℕ
 rest_of [] = []
 rest_of (b ∷ rest) = rest
@@ -51,12 +54,15 @@ cut (c ∷ a) (d ∷ b) one other wa wb low under is =
     let same : c ≡ d = ap first_of is in
     (ap₂ (λ h t. h ∷ t) same rest.0, rest.1)
 
+-- a hexadecimal digit is such a byte
 pub digit_in_word : (d : ℕ) → d < 16 → is_in_word (digit d) ≡ true
 digit_in_word d small = grind (arith, nat_tests)
 
+-- two numbers of one digit are one
 digit_same : (m n : ℕ) → m < 16 → n < 16 → digit m ≡ digit n → m ≡ n
 digit_same m n small few is = grind (arith, nat_tests)
 
+-- the two digits of a byte are a word
 pub pair_word : (b : ℕ) → IsWord (hexadecimal 2 b)
 unfolding digits
 pair_word b = (digit_in_word (b / 16 % 16) (omega arith), (digit_in_word (b % 16) (omega arith), tt))
@@ -81,6 +87,7 @@ bytes_same (b ∷ one) (c ∷ other) small few is =
     let same : b ≡ c = omega arith in
     ap₂ (λ h t. h ∷ t) same rest
 
+-- a name whose bytes pass the test is a word
 pub name_word : (name : List ℕ) → list_all is_in_word name ≡ true → IsWord name
 name_word name tested = AllByRecursion-tested is_in_word name tested
 
@@ -111,7 +118,7 @@ code_in (row ∷ rows) all code other word =
     let parts = and_parts (list_all is_in_word row.name) (list_all (λ (r : Code). list_all is_in_word r.name) rows) all in
     code_first (code == row.code) row.name (code_name_in rows code) other (name_word row.name parts.0) (code_in rows parts.1 code other word)
 
--- the names of services and of response codes are words
+-- the names of services are words
 pub service_word : (service : ℕ) → IsWord (service_text service)
 unfolding service_text
 service_word service =
@@ -119,6 +126,7 @@ service_word service =
     (AllByRecursion-append (λ d. is_in_word d ≡ true) (codes "service_") (hexadecimal 2 service) (name_word (codes "service_") refl)
     (pair_word service))
 
+-- and so are those of response codes
 pub code_word : (code : ℕ) → IsWord (code_text code)
 unfolding code_text
 code_word code =

@@ -4,6 +4,7 @@ use Rattle.std.specs.Prelude.{ℕ, Bool, true, false, List, [], ◌++◌, codes}
 use Rattle.std.specs.Fmt.{decimal}
 
 mutual
+  -- a value: null, true or false, a number, two numbers, a string, an object
   pub data Value : Type 0 where
     null : Value
     truth : Bool → Value

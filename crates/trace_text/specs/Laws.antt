@@ -47,10 +47,10 @@ abbrev pub SilenceWasAskedForInJson : Type 0
 SilenceWasAskedForInJson = (rules : List RuleValue) (request : List ℕ)
     → (outcome_members rules request None ≡ member (codes "outcome") (json.string (codes "silent")) nothing) ↔ (is_suppressing request ≡ true)
 
--- each role of messages has one text, and no two roles have the same
-abbrev pub RolesDiffer : Type 0
-RolesDiffer = (one other : Step) → (role_text one ≡ role_text other) ↔ (role_of_step one ≡ role_of_step other)
+-- two steps have one text exactly where they tell one role
+abbrev pub RolesHaveTexts : Type 0
+RolesHaveTexts = (one other : Step) → (role_text one ≡ role_text other) ↔ (role_of_step one ≡ role_of_step other)
 
--- that of an answer is its name
+-- the text of an answer is its name
 abbrev pub AnswerIsNamed : Type 0
 AnswerIsNamed = role_text becomes.Answer ≡ codes "answer"

@@ -49,6 +49,7 @@ reason_text reason.NextLate = codes "consecutive frame late"
 reason_text (reason.NextSequence expected found) =
     codes "sequence number " ++ hexadecimal 1 expected ++ codes " expected, " ++ hexadecimal 1 found ++ codes " found"
 reason_text reason.NextLength = codes "consecutive frame length"
+reason_text reason.FunctionalNotSingle = codes "functional frame not single"
 reason_text (reason.TooLong announced) = decimal announced ++ codes " bytes announced"
 
 -- a reception, by its direction, the line of its first frame and the length that this frame announced
@@ -96,6 +97,7 @@ reason_members (reason.NextSequence expected found) =
     member (codes "reason") (json.string (codes "sequence number")) (member (codes "expected") (json.number expected)
     (member (codes "found") (json.number found) nothing))
 reason_members reason.NextLength = named_reason (reason_text reason.NextLength)
+reason_members reason.FunctionalNotSingle = named_reason (reason_text reason.FunctionalNotSingle)
 reason_members (reason.TooLong announced) =
     member (codes "reason") (json.string (codes "bytes announced")) (member (codes "announced") (json.number announced) nothing)
 

@@ -12,12 +12,12 @@ place_text is_masked byte = if is_masked then codes ".." else hexadecimal 2 byte
 
 -- What stands behind the places: bytes that are left; or `*` where none is and what follows is cut off, whether there
 -- was something to cut off or not.
-abbrev pub end_text : Bool → List ℕ → List ℕ
-end_text cuts bytes = bytes_text bytes ++ (if cuts && (length bytes == 0) then codes "*" else [])
+abbrev pub text_behind : Bool → List ℕ → List ℕ
+text_behind cuts bytes = bytes_text bytes ++ (if cuts && (length bytes == 0) then codes "*" else [])
 
 -- the bytes behind a prefix, by their places; a message that ends before the places do has no mark behind it
 abbrev pub places_text : List Bool → Bool → List ℕ → List ℕ
-places_text [] cuts bytes = end_text cuts bytes
+places_text [] cuts bytes = text_behind cuts bytes
 places_text (is_masked ∷ places) cuts [] = []
 places_text (is_masked ∷ places) cuts (byte ∷ bytes) = place_text is_masked byte ++ places_text places cuts bytes
 

@@ -37,32 +37,32 @@ impl<'a> Part for HexBytes<'a> {
             out.put(&digits_of_bytes(eight));
             rest = behind;
         }
-        say_few_bytes(out, rest);
+        say_few_bytes(rest, out);
     }
 }
 
 /// Says those of fewer than eight bytes: they stand in front of eight, whose digits are made at once.
 #[inline(always)]
-fn say_few_bytes<S: TextSink>(out: &mut S, bytes: &[u8])
+fn say_few_bytes<S: TextSink>(bytes: &[u8], out: &mut S)
     requires { length bytes.now < 8 }
     ensures { S.says out.old (bytes_text bytes.now) out.new }
 {
     match *bytes {
         [] => {}
-        [a] => say_front(out, &[a, 0, 0, 0, 0, 0, 0, 0], 1),
-        [a, b] => say_front(out, &[a, b, 0, 0, 0, 0, 0, 0], 2),
-        [a, b, c] => say_front(out, &[a, b, c, 0, 0, 0, 0, 0], 3),
-        [a, b, c, d] => say_front(out, &[a, b, c, d, 0, 0, 0, 0], 4),
-        [a, b, c, d, e] => say_front(out, &[a, b, c, d, e, 0, 0, 0], 5),
-        [a, b, c, d, e, f] => say_front(out, &[a, b, c, d, e, f, 0, 0], 6),
-        [a, b, c, d, e, f, g] => say_front(out, &[a, b, c, d, e, f, g, 0], 7),
+        [a] => say_front(&[a, 0, 0, 0, 0, 0, 0, 0], 1, out),
+        [a, b] => say_front(&[a, b, 0, 0, 0, 0, 0, 0], 2, out),
+        [a, b, c] => say_front(&[a, b, c, 0, 0, 0, 0, 0], 3, out),
+        [a, b, c, d] => say_front(&[a, b, c, d, 0, 0, 0, 0], 4, out),
+        [a, b, c, d, e] => say_front(&[a, b, c, d, e, 0, 0, 0], 5, out),
+        [a, b, c, d, e, f] => say_front(&[a, b, c, d, e, f, 0, 0], 6, out),
+        [a, b, c, d, e, f, g] => say_front(&[a, b, c, d, e, f, g, 0], 7, out),
         _ => {}
     }
 }
 
 /// Says the digits of so many of eight bytes.
 #[inline(always)]
-fn say_front<S: TextSink>(out: &mut S, eight: &[u8; 8], count: usize)
+fn say_front<S: TextSink>(eight: &[u8; 8], count: usize, out: &mut S)
     requires { count ≤ 8 }
     ensures { S.says out.old (bytes_text (take count eight.now)) out.new }
 {

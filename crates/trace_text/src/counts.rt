@@ -8,10 +8,10 @@ use trace_log::Count;
 
 /// Says counts one after another: each as `before`, its name, `between`, and its number in decimal.
 pub fn say_counts<S: TextSink>(
-    out: &mut S,
     before: &'static str,
     between: &'static str,
     counts: &[Count],
+    out: &mut S,
 )
     ensures { S.says out.old (counts_between before.now between.now counts.now) out.new }
 {

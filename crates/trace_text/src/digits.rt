@@ -1,5 +1,5 @@
 //! Numbers as digits.
-ghost use Rattle.std.specs.Prelude.{◌≡◌, ◌<◌, [], ◌∷◌, ◌++◌, ◌%◌, codes};
+ghost use Rattle.std.specs.Prelude.{◌≡◌, ◌<◌, [], ◌∷◌, ◌++◌, ◌%◌};
 ghost use Rattle.can_log.specs.Digits.{decimal, hexadecimal};
 ghost use Rattle.can_log.specs.Digits as Spec;
 
@@ -10,24 +10,6 @@ const DIGITS: [u8; 16] = *b"0123456789ABCDEF";
 const PAIRS: [u8; 200] =
     *b"0001020304050607080910111213141516171819202122232425262728293031323334353637383940414243444546474849\
     5051525354555657585960616263646566676869707172737475767778798081828384858687888990919293949596979899";
-
-/// What is written for a service that has no name.
-#[tactic(auto, unfolding(can_log::specs::Digits::digits))]
-pub(crate) fn numbered_service(sid: u8) -> [u8; 10]
-    ensures { result ≡ codes "service_" ++ hexadecimal 2 sid }
-{
-    let [high, low] = hexadecimal_digits(sid);
-    [b's', b'e', b'r', b'v', b'i', b'c', b'e', b'_', high, low]
-}
-
-/// What is written for a response code that has no name.
-#[tactic(auto, unfolding(can_log::specs::Digits::digits))]
-pub(crate) fn numbered_code(code: u8) -> [u8; 7]
-    ensures { result ≡ codes "code_" ++ hexadecimal 2 code }
-{
-    let [high, low] = hexadecimal_digits(code);
-    [b'c', b'o', b'd', b'e', b'_', high, low]
-}
 
 /// The last hexadecimal digit of a number.
 #[tactic(auto, unfolding(can_log::specs::Digits::digits))]

@@ -40,7 +40,7 @@ pub fn say_item_object<S: TextSink>(
     say_closed(number, numbering, rules, item, "\"}", out);
 }
 
-/// Says the line of the object.
+/// Says an item, which has this number, as an object of JSON in a line of its own.
 pub(crate) fn say_item_object_line<S: TextSink>(
     number: u64,
     numbering: Numbering,
@@ -53,7 +53,7 @@ pub(crate) fn say_item_object_line<S: TextSink>(
     say_closed(number, numbering, rules, item, "\"}\n", out);
 }
 
-/// Says the open object and this end.
+/// Says an object up to its last quote, and then this end.
 #[inline(always)]
 fn say_closed<S: TextSink>(
     number: u64,

@@ -1,5 +1,5 @@
 //! What holds of the texts of messages, and of lists of items.
-ghost use Rattle.trace_text.specs.Laws.{UnnumberedListsJoin, EqualListsHaveEqualTexts, RolesDiffer, AnswerIsNamed};
+ghost use Rattle.trace_text.specs.Laws.{UnnumberedListsJoin, EqualListsHaveEqualTexts, RolesHaveTexts, AnswerIsNamed};
 ghost use Rattle.trace_text.specs.Laws.{SilenceWasAskedFor, SilenceWasAskedForInJson};
 ghost use Rattle.trace_text.specs.RuledLaws.{NoRulesMarkNothing, UnspokenIsNotMarked, EqualMessagesHaveEqualTexts};
 
@@ -21,9 +21,9 @@ pub fn silence_was_asked_for()
     ensures json { SilenceWasAskedForInJson }
 {}
 
-/// Each role of messages has one text, no two have the same, and an answer is called `answer`.
+/// Two steps have one text exactly where they tell one role, and an answer is called `answer`.
 pub fn roles_have_texts()
-    ensures distinct { RolesDiffer }
+    ensures distinct { RolesHaveTexts }
     ensures answer { AnswerIsNamed }
 {}
 

@@ -8,17 +8,16 @@
 //! ```
 //!
 //! All are said to a [`TextSink`](trace_io::TextSink), by parts (`text_parts`), which here are numbers, bytes and
-//! names; callers that say one after another have [`values`]. Which text it is, `specs` says, for JSON by the object
-//! that is meant.
+//! names. Which text it is, `specs` says, for JSON by the object that is meant.
 //!
 //! | What | Files | Definitions |
 //! |---|---|---|
-//! | numbers and bytes | `numbers`, `digits`, `bytes`, `counts`, `values` | `Words`, `Counts` |
+//! | numbers and bytes | `numbers`, `digits`, `bytes`, `counts` | `Words`, `Counts` |
 //! | names: who sent a message, services, codes, causes | `names`, `name_parts` | `Words`, `RemarkLines` |
 //! | items, in words and as JSON | `item_style`, `notation`, `item_lines`, `item_objects` | `ItemLines`, `Json` |
 //! | remarks: what a line that explains a log tells | `remark`, `remark_lines`, `remark_objects` | `RemarkLines` |
 //! | rules, and what they leave of messages | `rule_text`, `ruled_bytes` | `RuleText`, `RuledText` |
-//! | what holds of these texts | [`laws`] | `Laws` |
+//! | what holds of these texts | [`laws`] | `Laws`, `RuledLaws` |
 //!
 //! [`say_items`] says the list of a meaning, [`say_remark`] a line that explains a log; [`laws`] says that equal lists
 //! have equal texts, and only they.
@@ -32,7 +31,7 @@ mod item_objects;
 mod item_style;
 pub mod laws;
 mod name_parts;
-pub mod names;
+mod names;
 mod notation;
 mod numbers;
 mod remark;
@@ -40,7 +39,6 @@ mod remark_lines;
 mod remark_objects;
 mod rule_text;
 mod ruled_bytes;
-pub mod values;
 
 pub use bytes::{Byte, HexBytes, Verbatim};
 pub use counts::{MessagesWord, say_counts};
@@ -48,7 +46,7 @@ pub use item_lines::{say_item_line, say_items, say_worded_line};
 pub use item_objects::say_item_object;
 pub use item_style::{ItemStyle, Numbering};
 pub use name_parts::{
-    DropReason, EndCause, Identifier, LayoutFault, ResponseCode, Sender, ServiceName,
+    DropReason, EndCause, Identifier, LayoutFault, ResponseCode, Role, Sender, ServiceName,
 };
 pub use notation::Notation;
 pub use numbers::{HexadecimalDigit, Length, Number, Ordinal, SixDecimals, Stamp, ThreeDecimals};

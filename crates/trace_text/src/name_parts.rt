@@ -1,6 +1,9 @@
 //! What has a name, as parts of a text.
-use crate::digits::{numbered_code, numbered_service};
-use crate::names::{cause_name, direction_name, layout_fault_name};
+ghost use Rattle.std.specs.Prelude.{◌≡◌, ◌++◌, codes};
+ghost use Rattle.can_log.specs.Digits.{hexadecimal};
+
+use crate::digits::hexadecimal_digits;
+use crate::names::{cause_name, direction_name, layout_fault_name, role_name};
 use crate::numbers::{HexadecimalDigit, Length};
 use can_log::{Id, identifier_text};
 use direction::Dir;
@@ -8,6 +11,7 @@ use isotp_pdu::PduFault;
 use isotp_receive::{Cause, Reason};
 use text_parts::{Part, say};
 use trace_io::TextSink;
+use uds_exchange::Step;
 use uds_message::{code_name, service_name};
 
 /// The name of a service (ISO 14229-1), or `service_` and two digits where it has none.
@@ -28,6 +32,15 @@ impl Part for ServiceName {
     }
 }
 
+/// What is written for a service that has no name.
+#[tactic(auto, unfolding(can_log::specs::Digits::digits))]
+fn numbered_service(sid: u8) -> [u8; 10]
+    ensures { result ≡ codes "service_" ++ hexadecimal 2 sid }
+{
+    let [high, low] = hexadecimal_digits(sid);
+    [b's', b'e', b'r', b'v', b'i', b'c', b'e', b'_', high, low]
+}
+
 /// The name of a response code (ISO 14229-1, Annex A.1), or `code_` and two digits where it has none.
 #[derive(Clone, Copy)]
 pub struct ResponseCode(pub u8);
@@ -46,6 +59,15 @@ impl Part for ResponseCode {
     }
 }
 
+/// What is written for a response code that has no name.
+#[tactic(auto, unfolding(can_log::specs::Digits::digits))]
+fn numbered_code(code: u8) -> [u8; 7]
+    ensures { result ≡ codes "code_" ++ hexadecimal 2 code }
+{
+    let [high, low] = hexadecimal_digits(code);
+    [b'c', b'o', b'd', b'e', b'_', high, low]
+}
+
 /// The name of who sent something.
 #[derive(Clone, Copy)]
 pub struct Sender(pub Dir);
@@ -57,6 +79,21 @@ impl Part for Sender {
 
     fn say<S: TextSink>(self, out: &mut S) {
         say(out, direction_name(self.0));
+    }
+}
+
+/// The name of what a message is to its item.
+#[derive(Clone, Copy)]
+pub struct Role(pub Step);
+
+impl Part for Role {
+    ghost use Rattle.trace_text.specs.Words.{role_text};
+
+    ghost text = { λ role. role_text role.0 };
+
+    #[inline(always)]
+    fn say<S: TextSink>(self, out: &mut S) {
+        say(out, role_name(self.0));
     }
 }
 
@@ -128,6 +165,7 @@ impl Part for DropReason {
                 ),
             ),
             Reason::NextLength => say(out, "consecutive frame length"),
+            Reason::FunctionalNotSingle => say(out, "functional frame not single"),
             Reason::TooLong { announced } => say(out, (Length(announced), " bytes announced")),
         }
     }

@@ -1,4 +1,4 @@
-//! Names that lines of text have for what is in them.
+//! Names that lines of text have for what is in them, each one of a few.
 ghost use Rattle.std.specs.Prelude.{◌≡◌};
 ghost use Rattle.trace_text.specs.Words.{direction_text, role_text};
 ghost use Rattle.trace_text.specs.RemarkLines.{cause_text, layout_fault_text};
@@ -9,7 +9,7 @@ use isotp_receive::Cause;
 use uds_exchange::Step;
 
 /// The name of a direction.
-pub fn direction_name(dir: Dir) -> &'static str
+pub(crate) fn direction_name(dir: Dir) -> &'static str
     ensures { result.now ≡ direction_text dir }
 {
     match dir {
@@ -18,8 +18,8 @@ pub fn direction_name(dir: Dir) -> &'static str
     }
 }
 
-/// What a message is to its item.
-pub fn role_name(step: Step) -> &'static str
+/// The name of what a message is to its item.
+pub(crate) fn role_name(step: Step) -> &'static str
     ensures { result.now ≡ role_text step }
 {
     match step {
@@ -30,7 +30,7 @@ pub fn role_name(step: Step) -> &'static str
     }
 }
 
-/// Why a reception ended.
+/// The name of what ended a reception.
 pub(crate) fn cause_name(cause: Cause) -> &'static str
     ensures { result.now ≡ cause_text cause }
 {
@@ -43,7 +43,7 @@ pub(crate) fn cause_name(cause: Cause) -> &'static str
     }
 }
 
-/// Why a frame has no layout.
+/// The name of what is wrong with a frame that has no layout.
 pub(crate) fn layout_fault_name(fault: PduFault) -> &'static str
     ensures { result.now ≡ layout_fault_text fault }
 {

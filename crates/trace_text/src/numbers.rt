@@ -20,12 +20,12 @@ impl Part for Number {
     fn say<S: TextSink>(self, out: &mut S) {
         let number = self.0;
         if number < 10_000 {
-            say_short_number(out, number as u32);
+            say_short_number(number as u32, out);
         } else if number < 100_000_000 {
             let last = four_decimals(number as u32 % 10_000);
-            say_number_before(out, number as u32 / 10_000, &last, &[]);
+            say_number_before(number as u32 / 10_000, &last, &[], out);
         } else {
-            say_long_number(out, number);
+            say_long_number(number, out);
         }
     }
 }
@@ -33,7 +33,7 @@ impl Part for Number {
 /// Says a number of at most four digits. It is [`say_number_before`] with nothing behind, apart from it since most
 /// numbers are as short: one text is put in place of three.
 #[inline(always)]
-fn say_short_number<S: TextSink>(out: &mut S, number: u32)
+fn say_short_number<S: TextSink>(number: u32, out: &mut S)
     requires { number < 10000 }
     ensures { S.says out.old (decimal number) out.new }
 {
@@ -50,7 +50,7 @@ fn say_short_number<S: TextSink>(out: &mut S, number: u32)
 
 /// Says such a number and two texts behind it, the later digits of a longer one, as one whole.
 #[inline(always)]
-fn say_number_before<S: TextSink>(out: &mut S, number: u32, second: &[u8], third: &[u8])
+fn say_number_before<S: TextSink>(number: u32, second: &[u8], third: &[u8], out: &mut S)
     requires { number < 10000 }
     ensures { S.says out.old (decimal number ++ second.now ++ third.now) out.new }
 {
@@ -67,7 +67,7 @@ fn say_number_before<S: TextSink>(out: &mut S, number: u32, second: &[u8], third
 
 /// Says a number of more than eight digits, as seconds since 1970 have. One of more than twelve is rare.
 #[inline(never)]
-fn say_long_number<S: TextSink>(out: &mut S, number: u64)
+fn say_long_number<S: TextSink>(number: u64, out: &mut S)
     requires { 100000000 ≤ number }
     ensures { S.says out.old (decimal number) out.new }
 {
@@ -75,7 +75,7 @@ fn say_long_number<S: TextSink>(out: &mut S, number: u64)
         let behind = (number % 100_000_000) as u32;
         let middle = four_decimals(behind / 10_000);
         let last = four_decimals(behind % 10_000);
-        say_number_before(out, (number / 100_000_000) as u32, &middle, &last);
+        say_number_before((number / 100_000_000) as u32, &middle, &last, out);
     } else {
         out.put_whole(Buffer::new().format(number).as_bytes());
     }

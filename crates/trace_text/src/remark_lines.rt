@@ -26,7 +26,7 @@ pub fn say_remark<S: TextSink>(notation: Notation, remark: Remark, out: &mut S)
     }
 }
 
-/// Says it in words.
+/// Says the line of a remark in words.
 #[inline(always)]
 fn say_remark_line<S: TextSink>(remark: Remark, out: &mut S)
     ensures { S.says out.old (remark_line remark) out.new }
@@ -137,6 +137,6 @@ fn say_counts_words<S: TextSink>(counts: &[Count], out: &mut S)
     let Some((first, later)) = counts.split_first() else {
         return;
     };
-    say_counts(out, "", " ", &[*first]);
-    say_counts(out, " ", " ", later);
+    say_counts("", " ", &[*first], out);
+    say_counts(" ", " ", later, out);
 }

@@ -93,7 +93,8 @@ impl Part for ReasonMembers {
             | Reason::FlowUnexpected
             | Reason::NextUnexpected
             | Reason::NextLate
-            | Reason::NextLength => say(out, (",\"reason\":\"", DropReason(self.0), "\"")),
+            | Reason::NextLength
+            | Reason::FunctionalNotSingle => say(out, (",\"reason\":\"", DropReason(self.0), "\"")),
         }
     }
 }
@@ -121,6 +122,6 @@ fn say_summary_object<S: TextSink>(summary: &Summary, out: &mut S)
     ensures { S.says out.old (object_line (remark_members (told.Counts summary.now))) out.new }
 {
     say(out, "{\"event\":\"counts\"");
-    say_counts(out, ",\"", "\":", &summary.named());
+    say_counts(",\"", "\":", &summary.named(), out);
     say(out, "}\n");
 }

@@ -1,6 +1,6 @@
 //! A rule of a profile, as a part of a text.
 use crate::bytes::HexBytes;
-use text_parts::{Part, say};
+use text_parts::{Either, Part, When, say};
 use trace_io::TextSink;
 use uds_rules::{Deed, Mask, Rule};
 
@@ -34,43 +34,9 @@ impl<'a> Part for MaskText<'a> {
     fn say<S: TextSink>(self, out: &mut S) {
         let mut left = *self.0;
         'places: while let Some((is_masked, behind)) = left.split_first() {
-            say(out, MaskPlace(is_masked));
+            say(out, Either(is_masked, "..", "??"));
             left = behind;
         }
-        say(out, MaskEnd(left.cuts()));
-    }
-}
-
-/// A place, which is masked or kept.
-#[derive(Clone, Copy)]
-struct MaskPlace(bool);
-
-impl Part for MaskPlace {
-    ghost use Rattle.uds_rules.specs.Pattern.{place_text};
-
-    ghost text = { λ place. place_text place.0 };
-
-    fn say<S: TextSink>(self, out: &mut S) {
-        if self.0 {
-            say(out, "..");
-        } else {
-            say(out, "??");
-        }
-    }
-}
-
-/// What follows the last place: a mark where what stands behind it is cut off.
-#[derive(Clone, Copy)]
-struct MaskEnd(bool);
-
-impl Part for MaskEnd {
-    ghost use Rattle.uds_rules.specs.Pattern.{end_text};
-
-    ghost text = { λ end. end_text end.0 };
-
-    fn say<S: TextSink>(self, out: &mut S) {
-        if self.0 {
-            say(out, "*");
-        }
+        say(out, When(left.cuts(), "*"));
     }
 }

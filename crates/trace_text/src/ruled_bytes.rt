@@ -22,31 +22,31 @@ impl<'a> Part for RuledBytes<'a> {
 
     #[inline(always)]
     fn say<S: TextSink>(self, out: &mut S) {
-        if self.rules.is_empty() {
-            say(out, HexBytes(self.message));
+        if self.rules.may_speak_of(self.message) {
+            say_ruled(self.rules, self.message, out);
         } else {
-            say_ruled(out, self.rules, self.message);
+            say(out, HexBytes(self.message));
         }
     }
 }
 
-/// Says the bytes of a message that these rules have left. It is a call of its own, so that what texts without rules do
-/// without is not in line.
+/// Says the bytes of a message that these rules have left. It is a call of its own, so that what most texts do without is
+/// not inlined there.
 #[inline(never)]
-fn say_ruled<S: TextSink>(out: &mut S, rules: &Rules, message: &[u8])
+fn say_ruled<S: TextSink>(rules: &Rules, message: &[u8], out: &mut S)
     ensures { S.says out.old (ruled_text rules.now message.now) out.new }
 {
     match rules.mask_of(message) {
         Some((mask, start)) => {
             say(out, HexBytes(&message[..start]));
-            say_masked(out, mask, &message[start..]);
+            say_masked(mask, &message[start..], out);
         }
         None => say(out, HexBytes(message)),
     }
 }
 
 /// Says the bytes behind a prefix.
-fn say_masked<S: TextSink>(out: &mut S, mask: Mask, bytes: &[u8])
+fn say_masked<S: TextSink>(mask: Mask, bytes: &[u8], out: &mut S)
     ensures { S.says out.old (masked_text mask bytes.now) out.new }
 {
     let mut left = mask;

@@ -14,9 +14,9 @@ use Rattle.uds_exchange.specs.Order.{has_exchange, open_request_in, open_request
 use Rattle.uds_exchange.specs.proving.Deciding.{decided_by}
 use Rattle.uds_exchange.specs.proving.OpenExchange.{open_exchange_in}
 use Rattle.uds_exchange.specs.proving.Pairing.{items_with_other, items_with}
-use Rattle.uds_exchange.proofs.OpenRequests.{open-request-waits, open-request-behind}
+use Rattle.uds_exchange.proofs.OpenRequests.{open-request-waits, open_request_is_last}
 use Rattle.uds_exchange.proofs.HeldMustWait.{rejects}
-use Rattle.uds_exchange.proofs.MeaningOfMore.{meaning-append}
+use Rattle.uds_exchange.proofs.MeaningOfMore.{meaning_goes_on}
 use Rattle.uds_exchange.proofs.OpenRequestOfMore.{open_request_goes_on}
 use Rattle.uds_exchange.proofs.OpenExchange.{has-more, has-last, has-set, open_exchange-at, one_later-none, one_later-some, request_of, no-exchange}
 
@@ -126,7 +126,7 @@ more its x =
 -- what one more message decides, by what a decider keeps
 pub decided-by : (M : List Message) (x : Message) (d : DeciderValue) → d ≡ decider_after M → AreDecidedBy M x (decided_by d x)
 decided-by M x d is =
-    ap decided_in (meaning-append M x) ∙ more (meaning M) x
+    ap decided_in (meaning_goes_on M x) ∙ more (meaning M) x
     ∙ ap (λ (o : Option (List ℕ)). let s : DeciderValue = record { request = o; holds = held M } in decided M ++ decided_by s x)
     (sym (open-request-waits (meaning M)))
     ∙ ap (λ s. decided M ++ decided_by s x) (sym is)
@@ -147,7 +147,7 @@ decided_grows M (x ∷ N) =
 pub undecided_must_wait : UndecidedMustWait
 undecided_must_wait M request open_one =
     let x = rejection_of request in
-    let answers = rejects request ((open-request-behind M request).0 open_one).is_one in
+    let answers = rejects request ((open_request_is_last M request).0 open_one).is_one in
     let closed : open_request (M ++ x ∷ []) ≡ None = open_request_goes_on M x ∙ ap (λ o. open_with o x) open_one ∙ rw answers refl in
     let now : decided_by (decider_after M) x ≡ exchange request (Some x.1) ∷ map stray_of (held M) = rw (open_one, answers) refl in
     sym (decided_then_undecided (M ++ x ∷ []))

@@ -1,5 +1,6 @@
 -- What is early and what is held, as a meaning grows.
-use Rattle.std.proofs.Common.{◌≡◌, ℕ, ◌-◌, false, List, [], ◌∷◌, ◌++◌, length, Option, Some, None, refl, sym, ◌∙◌, ap, arith, cond, inl, inr, append_assoc, length-append}
+use Rattle.std.proofs.Common.{◌≡◌, ℕ, ◌-◌, false, List, [], ◌∷◌, ◌++◌, length, Option, Some, None, refl, sym, ◌∙◌, ap, arith}
+use Rattle.std.proofs.Common.{cond, inl, inr, append_assoc, length-append}
 use Rattle.std.specs.Prelude.{slice_set}
 use Rattle.std.proofs.lemmas.List.{append-nil}
 use Rattle.std.proofs.Math.Seq.{take-append_seam}
@@ -15,7 +16,7 @@ use Rattle.uds_exchange.specs.Order.{has_exchange, held_in, held, early}
 use Rattle.uds_exchange.proofs.OpenExchange.{has-more, has-last, has-set, open_exchange-at, one_later-none, one_later-some}
 use Rattle.uds_exchange.proofs.Replies.{from-tester, from-unit}
 use Rattle.uds_exchange.proofs.MessagesOfParts.{flattened-push}
-use Rattle.uds_exchange.proofs.MeaningOfMore.{meaning-append}
+use Rattle.uds_exchange.proofs.MeaningOfMore.{meaning_goes_on}
 
 -- the messages of the items before those that are held
 abbrev pub early_in : List ItemValue → List Message
@@ -61,6 +62,7 @@ early-stray (exchange q None ∷ its) d m h =
       | inr e ↦ absurd (none-some _ (sym (rw e at h)))
     ]
 
+-- where no exchange waits nothing is held
 pub none-held : (its : List ItemValue) → open_exchange_in its ≡ None → held_in its ≡ []
 none-held [] h = refl
 none-held (stray e n ∷ its) h = none-held its (one_later-none _ h)
@@ -137,6 +139,7 @@ early-joins its x (Some w) r h =
       ]
     ]
 
+-- with one more message what is early is what was, and then what becomes due
 pub early-join : (its : List ItemValue) (x : Message) → early_in (items_with its x) ≡ early_in its ++ due_in its x
 early-join its x =
     elim (cases_Bool (is_tester_request x)) [
@@ -161,18 +164,19 @@ early-is M =
 pub early-append : (M : List Message) (x : Message) → early (M ++ x ∷ []) ≡ early M ++ due_in (meaning M) x
 early-append M x =
     early-is (M ++ x ∷ [])
-    ∙ ap early_in (meaning-append M x)
+    ∙ ap early_in (meaning_goes_on M x)
     ∙ early-join (meaning M) x
     ∙ ap (λ l. l ++ due_in (meaning M) x) (sym (early-is M))
 
-pub early-then-held : (M : List Message) → early M ++ held M ≡ flattened (meaning M)
-early-then-held M = ap (λ l. l ++ held M) (early-is M) ∙ early-held (meaning M)
+-- what is early and then what is held are the messages of the meaning
+pub early_then_held : (M : List Message) → early M ++ held M ≡ flattened (meaning M)
+early_then_held M = ap (λ l. l ++ held M) (early-is M) ∙ early-held (meaning M)
 
 -- what is early stays in front, whatever follows
-pub early-front : (M N : List Message) → (rest : List Message) × (flattened (meaning (M ++ N)) ≡ early M ++ rest)
-early-front M [] = (held M, rw append-nil (sym (early-then-held M)))
-early-front M (x ∷ N) =
-    let more = early-front (M ++ x ∷ []) N in (
+pub early_stays : (M N : List Message) → (rest : List Message) × (flattened (meaning (M ++ N)) ≡ early M ++ rest)
+early_stays M [] = (held M, rw append-nil (sym (early_then_held M)))
+early_stays M (x ∷ N) =
+    let more = early_stays (M ++ x ∷ []) N in (
       due_in (meaning M) x ++ more.0,
       ap (λ l. flattened (meaning l)) (sym (append_assoc M (x ∷ []) N))
           ∙ more.1
@@ -181,10 +185,10 @@ early-front M (x ∷ N) =
     )
 
 -- and begins what is early
-pub early-grows : (M N : List Message) → (rest : List Message) × (early (M ++ N) ≡ early M ++ rest)
-early-grows M [] = ([], ap early (append-nil M) ∙ sym (append-nil (early M)))
-early-grows M (x ∷ N) =
-    let more = early-grows (M ++ x ∷ []) N in (
+pub early_grows : (M N : List Message) → (rest : List Message) × (early (M ++ N) ≡ early M ++ rest)
+early_grows M [] = ([], ap early (append-nil M) ∙ sym (append-nil (early M)))
+early_grows M (x ∷ N) =
+    let more = early_grows (M ++ x ∷ []) N in (
       due_in (meaning M) x ++ more.0,
       ap early (sym (append_assoc M (x ∷ []) N)) ∙ more.1 ∙ ap (λ l. l ++ more.0) (early-append M x) ∙ append_assoc (early M) _ _,
     )

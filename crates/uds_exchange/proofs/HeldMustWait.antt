@@ -15,7 +15,7 @@ use Rattle.uds_exchange.specs.proving.OpenExchange.{open_exchange_in}
 use Rattle.uds_exchange.specs.proving.Pairing.{items_with_other, items_with}
 use Rattle.uds_exchange.proofs.OpenExchange.{request_of, open_exchange-stray, open_exchange-answered}
 use Rattle.uds_exchange.proofs.ListTests.{any-append, any-first}
-use Rattle.uds_exchange.proofs.MeaningOfMore.{meaning-append}
+use Rattle.uds_exchange.proofs.MeaningOfMore.{meaning_goes_on}
 use Rattle.uds_exchange.proofs.OpenRequests.{opens, open-request-waits}
 use Rattle.uds_exchange.proofs.EarlyOfMore.{early_in, early-held, early-is, early-request, early-kept, early-answered, none-held}
 use Rattle.uds_exchange.proofs.Replies.{from-unit}
@@ -56,7 +56,7 @@ no-answer-join its x s =
 no-answer-over : (M N : List Message) → NoAnswerHeld (meaning M) → NoAnswerHeld (meaning (M ++ N))
 no-answer-over M [] s = rw append-nil s
 no-answer-over M (x ∷ N) s =
-    let one : NoAnswerHeld (meaning (M ++ x ∷ [])) = rw meaning-append (no-answer-join (meaning M) x s) in
+    let one : NoAnswerHeld (meaning (M ++ x ∷ [])) = rw meaning_goes_on (no-answer-join (meaning M) x s) in
     rw (← append_assoc M (x ∷ []) N) (no-answer-over (M ++ x ∷ []) N one)
 
 no-answer-held : (M : List Message) → NoAnswerHeld (meaning M)
@@ -81,9 +81,10 @@ answered its w h x r e =
     sym (early-held (slice_set its w.0 (exchange w.1 (Some x.1))))
     ∙ rw (set.0, set.1) (append-nil _ ∙ ap (λ y. early_in its ++ y ∷ held_in its) (from-unit w.1 x e)))
 
-pub answer-first : (M : List Message) (x : Message) (more : List Message) → held M ≡ x ∷ more
+-- what is held could not be put: a rejection of the request would come before it
+pub held_must_wait : (M : List Message) (x : Message) (more : List Message) → held M ≡ x ∷ more
     → (r : List ℕ) × IsOpenBehind M r × (flattened (meaning (M ++ rejection_of r ∷ [])) ≡ early M ++ rejection_of r ∷ held M) × (x ≢ rejection_of r)
-answer-first M x more h = answer-first-by (open_exchange_in (meaning M)) refl where
+held_must_wait M x more h = answer-first-by (open_exchange_in (meaning M)) refl where
   answer-first-by : (o : Option (ℕ × List ℕ)) → open_exchange_in (meaning M) ≡ o
       → (r : List ℕ) × IsOpenBehind M r × (flattened (meaning (M ++ rejection_of r ∷ [])) ≡ early M ++ rejection_of r ∷ held M) × (x ≢ rejection_of r)
   answer-first-by None k = cc (none-held (meaning M) k)
@@ -93,7 +94,7 @@ answer-first M x more h = answer-first-by (open_exchange_in (meaning M)) refl wh
       let none : list_any (is_answer_to w.1) (x ∷ more) ≡ false = ap (list_any (is_answer_to w.1)) (sym h) ∙ no-answer-held M w k in (
         w.1,
         o,
-        ap flattened (meaning-append M (rejection_of w.1))
+        ap flattened (meaning_goes_on M (rejection_of w.1))
             ∙ answered (meaning M) w k (rejection_of w.1) refl yes
             ∙ ap (λ l. l ++ rejection_of w.1 ∷ held M) (sym (early-is M)),
         λ e. false≢true (sym none ∙ any-first (is_answer_to w.1) x more (ap (is_answer_to w.1) e ∙ yes)),

@@ -14,7 +14,7 @@ use Rattle.uds_exchange.specs.Judging.{step_after}
 use Rattle.uds_exchange.specs.declared.step.Step.{Step}
 use Rattle.uds_exchange.specs.declared.step.Step.TheVariants as step
 use Rattle.uds_exchange.proofs.OpenExchange.{sid_of, open_exchange-stray, open_exchange-request, open_exchange-answered}
-use Rattle.uds_exchange.proofs.MeaningOfMore.{meaning-append}
+use Rattle.uds_exchange.proofs.MeaningOfMore.{meaning_goes_on}
 use Rattle.uds_exchange.proofs.EarlyOfMore.{early-request, early-stray, early-kept, early-answered, none-held}
 use Rattle.uds_exchange.proofs.OpenRequests.{open-request-waits}
 
@@ -27,8 +27,8 @@ pub open-sid-is : (M : List Message) → option_map sid (open_request M) ≡ ope
 open-sid-is M = ap (option_map sid) (open-request-waits (meaning M)) ∙ sid-of-request (open_exchange_in (meaning M))
 
 -- so what becomes of a message is told by the items
-pub step-is : (M : List Message) (x : Message) → step_of (open_sid_in (meaning M)) x ≡ step_after M x
-step-is M x = ap (λ o. step_of o x) (sym (open-sid-is M))
+pub step_by_items : (M : List Message) (x : Message) → step_of (open_sid_in (meaning M)) x ≡ step_after M x
+step_by_items M x = ap (λ o. step_of o x) (sym (open-sid-is M))
 
 next-by : (its : List ItemValue) (x : Message) (w : Option (ℕ × List ℕ)) → is_tester_request x ≡ false → open_exchange_in its ≡ w
     → (open_sid_in (items_with_other w its x) ≡ open_sid_after_step (step_of (sid_of w) x) (open_sid_in its))
@@ -60,13 +60,14 @@ pub open-sid-next : (M : List Message) (x : Message)
     → option_map sid (open_request (M ++ x ∷ [])) ≡ open_sid_after_step (step_after M x) (option_map sid (open_request M))
 open-sid-next M x =
     open-sid-is (M ++ x ∷ [])
-    ∙ ap open_sid_in (meaning-append M x)
+    ∙ ap open_sid_in (meaning_goes_on M x)
     ∙ (next-same (meaning M) x).0
     ∙ ap (λ o. open_sid_after_step (step_of o x) o) (sym (open-sid-is M))
 
+-- what is held with one more message, by what becomes of it
 pub held-next : (M : List Message) (x : Message) → held (M ++ x ∷ []) ≡ held_after_step (step_after M x) (held M) x
 held-next M x =
-    ap held_in (meaning-append M x)
+    ap held_in (meaning_goes_on M x)
     ∙ (next-same (meaning M) x).1
     ∙ ap (λ o. held_after_step (step_of o x) (held M) x) (sym (open-sid-is M))
 

@@ -1,5 +1,6 @@
 -- Messages that lie in blocks, which only go on.
-use Rattle.std.proofs.Common.{◌≡◌, ℕ, ◌+◌, ◌<◌, suc, zero, List, [], ◌∷◌, ◌++◌, length, drop, get_or, refl, sym, subst, ◌∙◌, ap, inl, inr, arith, append-nil, length-append, length-drop, length-set, get_or-set_same, get_or-set_other}
+use Rattle.std.proofs.Common.{◌≡◌, ℕ, ◌+◌, ◌<◌, suc, zero, List, [], ◌∷◌, ◌++◌, length, drop, get_or, refl, sym, subst, ◌∙◌, ap}
+use Rattle.std.proofs.Common.{inl, inr, arith, append-nil, length-append, length-drop, length-set, get_or-set_same, get_or-set_other}
 use Rattle.std.specs.Prelude.{slice_set, Vec}
 use Rattle.std.specs.declared.alloc.Global.{Global}
 use Rattle.std.proofs.lemmas.Bool.{cases_eq}
@@ -60,9 +61,11 @@ module _ (first : Vec ℕ Global) (later : List (Vec ℕ Global)) (k : ℕ) (bel
   here : block.items ≡ block_at (block_bytes later) k
   here = ap (λ (b : Vec ℕ Global). b.items) there ∙ sym (get_or-map (λ (b : Vec ℕ Global). b.items) later k block [] below)
 
+  -- a block that has the same bytes may take the place of one
   pub same-bytes : new.items ≡ block.items → block_bytes (first ∷ slice_set later k new) ≡ block_bytes (first ∷ later)
   same-bytes same = ap (λ l. first.items ∷ l) (set-bytes ∙ ap (slice_set (block_bytes later) k) (same ∙ here) ∙ set-get_or (block_bytes later) k [])
 
+  -- a message that is laid in a later block is laid
   pub lays-in-later : (number : ℕ) (span : Span) (message : List ℕ) → number ≡ suc k → new.items ≡ block.items ++ message
       → IsSpan span number (length block.items) (length message)
       → Lays (block_bytes (first ∷ later)) span message (block_bytes (first ∷ slice_set later k new))
@@ -95,6 +98,7 @@ lays-anew first old new span message is at =
 
 -- what lies in a block stays where it is
 module _ (old new : List (List ℕ)) (on : GoesOn old new) where
+  -- a span that lies in a block does so whatever is laid after it
   pub inside-on : (span : Span) → IsInside old span → IsInside new span
   inside-on span inside =
       let more = on.bytes span.block in
@@ -103,6 +107,7 @@ module _ (old new : List (List ℕ)) (on : GoesOn old new) where
         end = omega (arith, inside.end, ap length more.1, length-append (block_at old span.block) more.0);
       }
 
+  -- and its bytes stay
   pub bytes_at-on : (span : Span) → IsInside old span → bytes_at new span ≡ bytes_at old span
   bytes_at-on span inside =
       let more = on.bytes span.block in
@@ -110,5 +115,6 @@ module _ (old new : List (List ℕ)) (on : GoesOn old new) where
       rw (more.1, drop-append-le span.start block more.0 (omega (arith, inside.end)))
       (take-append-le span.len (drop span.start block) more.0 (omega (arith, inside.end, length-drop span.start block)))
 
-  pub holds-on : (span : Span) (message : List ℕ) → Holds old span message → Holds new span message
-  holds-on span message lies = record { inside = inside-on span lies.inside; bytes = bytes_at-on span lies.inside ∙ lies.bytes }
+  -- so a message that is kept stays where it lies
+  pub message_stays : (span : Span) (message : List ℕ) → Holds old span message → Holds new span message
+  message_stays span message lies = record { inside = inside-on span lies.inside; bytes = bytes_at-on span lies.inside ∙ lies.bytes }

@@ -15,7 +15,7 @@ use Rattle.uds_exchange.specs.declared.sides.Sides.{Sides}
 use Rattle.uds_exchange.specs.declared.step.Step.{Step}
 use Rattle.uds_exchange.specs.declared.step.Step.TheVariants as step
 use Rattle.uds_exchange.proofs.HeldOfMore.{open-sid-next, held-next}
-use Rattle.uds_exchange.proofs.ItemCounts.{items-next, few-items, few-held, left-out-by, removed-next, few-removed}
+use Rattle.uds_exchange.proofs.ItemCounts.{items_grow, items_within_messages, few-held, left-out-by, removed-next, few-removed}
 use Rattle.uds_exchange.proofs.ListTests.{any-push}
 
 -- what is gathered of one more message
@@ -28,7 +28,7 @@ next-by : (s : Step) (M : List Message) (x : Message) (judge : Judge) (seen : Si
     → length (removed_messages (M ++ x ∷ [])) ≡ length (removed_messages M) + left-out-by s
     → HasCounted (M ++ x ∷ []) (judge_after_step s (record judge { sides = seen }))
 next-by (step.Request service) M x judge seen few counts opened held_now grown gone =
-    let few_items = few-items M in let is = counts.items in record {
+    let few_items = items_within_messages M in let is = counts.items in record {
       is_open = sym opened;
       items = omega arith;
       held_count = ap length (sym held_now);
@@ -49,7 +49,7 @@ next-by step.Removed M x judge seen few counts opened held_now grown gone =
       removed = omega arith;
     }
 next-by step.Hold M x judge seen few counts opened held_now grown gone =
-    let few_items = few-items M in let few_held = few-held M in let items_were = counts.items in let held_were = counts.held_count in
+    let few_items = items_within_messages M in let few_held = few-held M in let items_were = counts.items in let held_were = counts.held_count in
     let more = length-append (held M) (x ∷ []) in let now = ap length held_now in record {
       is_open = counts.is_open ∙ sym opened;
       items = omega arith;
@@ -57,7 +57,7 @@ next-by step.Hold M x judge seen few counts opened held_now grown gone =
       removed = omega (arith, counts.removed, gone);
     }
 next-by step.Pass M x judge seen few counts opened held_now grown gone =
-    let few_items = few-items M in let is = counts.items in record {
+    let few_items = items_within_messages M in let is = counts.items in record {
       is_open = counts.is_open ∙ sym opened;
       items = omega arith;
       held_count = counts.held_count ∙ ap length (sym held_now);
@@ -69,7 +69,7 @@ pub counts-next : (M : List Message) (x : Message) (judge now : Judge) (s : Step
     → s ≡ step_of judge.open_sid x → now ≡ judge_after_step s (record judge { sides = seen }) → HasCounted (M ++ x ∷ []) now
 counts-next M x judge now s seen few counts s_is now_is =
     let found : s ≡ step_after M x = s_is ∙ ap (λ o. step_of o x) counts.is_open in
-    rw (now_is, found) (next-by (step_after M x) M x judge seen few counts (open-sid-next M x) (held-next M x) (items-next M x) (removed-next M x))
+    rw (now_is, found) (next-by (step_after M x) M x judge seen few counts (open-sid-next M x) (held-next M x) (items_grow M x) (removed-next M x))
 
 sides-kept : (s : Step) (judge : Judge) (seen : Sides) → (judge_after_step s (record judge { sides = seen })).sides ≡ seen
 sides-kept (step.Request service) judge seen = refl
@@ -87,11 +87,11 @@ sides-found M x judge now s seen were seen_is now_is =
 
 number-by : (s : Step) (M : List Message) (judge : Judge) (seen : Sides) → length M < 2 ^ 62 → HasCounted M judge
     → number_in s (record judge { sides = seen }) ≡ number_by s M
-number-by (step.Request service) M judge seen few counts = let few_items = few-items M in let is = counts.items in omega arith
+number-by (step.Request service) M judge seen few counts = let few_items = items_within_messages M in let is = counts.items in omega arith
 number-by step.Answer M judge seen few counts = let items_are = counts.items in let held_are = counts.held_count in omega arith
 number-by step.Removed M judge seen few counts = let items_are = counts.items in let held_are = counts.held_count in omega arith
-number-by step.Hold M judge seen few counts = let few_items = few-items M in let is = counts.items in omega arith
-number-by step.Pass M judge seen few counts = let few_items = few-items M in let is = counts.items in omega arith
+number-by step.Hold M judge seen few counts = let few_items = items_within_messages M in let is = counts.items in omega arith
+number-by step.Pass M judge seen few counts = let few_items = items_within_messages M in let is = counts.items in omega arith
 
 -- what becomes of it
 pub step-found : (M : List Message) (x : Message) (judge : Judge) (s : Step) → IsOpenSid M judge.open_sid → s ≡ step_of judge.open_sid x

@@ -4,10 +4,10 @@ use Rattle.std.proofs.Common.{◌≡◌, ℕ, List, [], ◌∷◌, ◌++◌, len
 use Rattle.std.specs.Prelude.{slice_get, slice_set}
 
 -- in a longer list
-pub at-front : {X : Type 0} (xs ys : List X) (place : ℕ) (x : X) → slice_get xs place ≡ Some x → slice_get (xs ++ ys) place ≡ Some x
-at-front [] ys place x is = cc
-at-front (y ∷ xs) ys zero x is = is
-at-front (y ∷ xs) ys (suc place) x is = at-front xs ys place x is
+pub at_front : {X : Type 0} (xs ys : List X) (place : ℕ) (x : X) → slice_get xs place ≡ Some x → slice_get (xs ++ ys) place ≡ Some x
+at_front [] ys place x is = cc
+at_front (y ∷ xs) ys zero x is = is
+at_front (y ∷ xs) ys (suc place) x is = at_front xs ys place x is
 
 -- behind a list
 pub at-behind : {X : Type 0} (xs ys : List X) (x : X) → slice_get (xs ++ x ∷ ys) (length xs) ≡ Some x

@@ -68,6 +68,7 @@ join-cons a its x h =
       | inr e ↦ rw (e, open_exchange-cons a its h) (join_by-cons a (open_exchange_in its) its x)
     ]
 
+-- an exchange behind other items is an exchange among all
 pub has-behind : (A B : List ItemValue) → has_exchange B ≡ true → has_exchange (A ++ B) ≡ true
 has-behind [] B h = h
 has-behind (stray d m ∷ A) B h = has-behind A B h
@@ -124,9 +125,11 @@ part-grows r None o x h =
       ]
     ])
 
+-- the items of a part have its exchange
 pub has-items : (p : Part) (ps : List Part) → has_exchange (flat_map items_of (p ∷ ps)) ≡ true
 has-items p ps = refl
 
+-- the items of one part alone
 pub one-part : (p : Part) → flat_map items_of (p ∷ []) ≡ items_of p
 one-part p = append-nil (items_of p)
 
@@ -160,5 +163,5 @@ meaning-append-by b (p ∷ ps) x =
     ap (λ l. map stray_of b ++ l) (parts-join p ps x) ∙ sym (join-behind (map stray_of b) (flat_map items_of (p ∷ ps)) x (has-items p ps))
 
 -- the meaning of a longer list
-pub meaning-append : (M : List Message) (x : Message) → meaning (M ++ x ∷ []) ≡ items_with (meaning M) x
-meaning-append M x = rw ((grows M x).0, (grows M x).1) (meaning-append-by (before_requests M) (parts M) x)
+pub meaning_goes_on : (M : List Message) (x : Message) → meaning (M ++ x ∷ []) ≡ items_with (meaning M) x
+meaning_goes_on M x = rw ((grows M x).0, (grows M x).1) (meaning-append-by (before_requests M) (parts M) x)

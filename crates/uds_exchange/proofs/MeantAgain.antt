@@ -77,8 +77,8 @@ items-all [] = refl
 items-all (p ∷ ps) = ap (λ l. l ++ flat_map items_of (map again ps)) (items-again p) ∙ ap (λ l. items_of p ++ l) (items-all ps)
 
 -- what stays of each part means that part again
-pub meaning-flattened : (M : List Message) → meaning (flattened (meaning M)) ≡ meaning M
-meaning-flattened M =
+pub meaning_is_kept : (M : List Message) → meaning (flattened (meaning M)) ≡ meaning M
+meaning_is_kept M =
     let before = before_requests M in
     let tail = flattened (flat_map items_of (parts M)) in
     let quiet = quiet-before_requests M in

@@ -26,9 +26,10 @@ only-roles past (x ∷ xs) [] h = absurd h
 only-roles past (x ∷ xs) (role ∷ roles) h =
     ap (λ r. r ∷ roles) (only-role past x role h.0) ∙ ap (λ l. role_behind past x ∷ l) (only-roles (past ++ x ∷ []) xs roles h.1)
 
-pub each-has-roles : (M : List Message) → (roles : List MessageRole) × AreRoles [] M roles
+-- each message of a list has a role
+pub each_list_has_roles : (M : List Message) → (roles : List MessageRole) × AreRoles [] M roles
     × ((others : List MessageRole) → AreRoles [] M others → others ≡ roles)
-each-has-roles M = (roles_of [] M, are-roles [] M, only-roles [] M)
+each_list_has_roles M = (roles_of [] M, are-roles [] M, only-roles [] M)
 
 those-cons : (x : Message) (xs : List Message) (role : MessageRole) (roles : List MessageRole)
     → those_removed (x ∷ []) (role ∷ []) ++ those_removed xs roles ≡ those_removed (x ∷ xs) (role ∷ roles)
@@ -37,6 +38,7 @@ those-cons x xs as_answer roles = refl
 those-cons x xs as_removed roles = refl
 those-cons x xs as_stray roles = refl
 
+-- by these roles its messages are those of its meaning, in order
 pub by-roles : (past xs : List Message) (roles : List MessageRole) → AreRoles past xs roles
     → (flattened (meaning (past ++ xs)) ≡ arranged (flattened (meaning past)) xs roles)
     × (removed_messages (past ++ xs) ≡ removed_messages past ++ those_removed xs roles)

@@ -5,7 +5,8 @@ use Rattle.std.specs.List.{flat_map}
 use Rattle.std.proofs.lemmas.Grind.{flat_map-append}
 use Rattle.direction.specs.Dir.{Message}
 use Rattle.direction.specs.declared.Dir.TheVariants.{Tester, Unit}
-use Rattle.uds_exchange.specs.Meaning.{before_requests, Part, parts, answer, strays_in, ItemValue, exchange, stray_of, items_of, meaning, messages_of, flattened}
+use Rattle.uds_exchange.specs.Meaning.{before_requests, Part, parts, answer, strays_in, ItemValue, exchange, stray_of, items_of}
+use Rattle.uds_exchange.specs.Meaning.{meaning, messages_of, flattened}
 
 pub flattened-strays : (xs : List Message) → flattened (map stray_of xs) ≡ xs
 flattened-strays [] = refl

@@ -3,10 +3,11 @@ use Rattle.std.proofs.Common.{◌≡◌, ℕ, ◌+◌, List, [], ◌∷◌, leng
 use Rattle.std.specs.List.{flat_map}
 use Rattle.std.proofs.lemmas.Bool.{cases_Bool}
 use Rattle.direction.specs.Dir.{Message}
-use Rattle.uds_exchange.specs.Meaning.{is_tester_request, is_answer_to, is_pending_reply_to, before_requests, Part, parts, answer, strays_in, removed, removed_of, removed_messages, items_of, meaning, flattened}
+use Rattle.uds_exchange.specs.Meaning.{is_tester_request, is_answer_to, is_pending_reply_to, before_requests, Part, parts}
+use Rattle.uds_exchange.specs.Meaning.{answer, strays_in, removed, removed_of, removed_messages, items_of, meaning, flattened}
 use Rattle.uds_exchange.specs.Order.{held, early}
 use Rattle.uds_exchange.proofs.MessagesOfParts.{kept, stays, flattened-part, flattened-meaning}
-use Rattle.uds_exchange.proofs.EarlyOfMore.{early-then-held}
+use Rattle.uds_exchange.proofs.EarlyOfMore.{early_then_held}
 
 -- one more stray is one more message that stays
 kept-length : (a : Option (List ℕ)) (x : Message) (o : List Message) → length (kept a (x ∷ o)) ≡ length (kept a o) + 1
@@ -54,10 +55,12 @@ items-size (p ∷ ps) =
       items-size ps,
     ))
 
-pub none-lost : (M : List Message) → length (flattened (meaning M)) + length (removed_messages M) ≡ length M
-none-lost M =
+-- no message of a list is lost: each is one of its meaning, or removed
+pub none_is_lost : (M : List Message) → length (flattened (meaning M)) + length (removed_messages M) ≡ length M
+none_is_lost M =
     let tail = flattened (flat_map items_of (parts M)) in
     rw flattened-meaning (omega (arith, length-append (before_requests M) tail, items-size (parts M), parts-size M))
 
-pub none-lost-in-order : (M : List Message) → length (early M ++ held M) + length (removed_messages M) ≡ length M
-none-lost-in-order M = rw early-then-held (none-lost M)
+-- nor is one lost where they are put in order
+pub none_is_lost_in_order : (M : List Message) → length (early M ++ held M) + length (removed_messages M) ≡ length M
+none_is_lost_in_order M = rw early_then_held (none_is_lost M)

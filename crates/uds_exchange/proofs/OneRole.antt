@@ -14,6 +14,7 @@ abbrev pub role_by : Option (ℕ × List ℕ) → Message → MessageRole
 role_by None x = as_stray
 role_by (Some w) x = cond (is_answer_to w.1 x) as_answer (cond (is_pending_reply_to w.1 x) as_removed as_stray)
 
+-- the role of a message behind these messages
 abbrev pub role_behind : List Message → Message → MessageRole
 role_behind past x = cond (is_tester_request x) as_request (role_by (open_exchange_in (meaning past)) x)
 
@@ -38,6 +39,7 @@ module _ (past : List Message) (x : Message) where
         ]
       ]
 
+  -- a message has that role
   pub has-role : HasRole past x (role_behind past x)
   has-role =
       elim (cases_Bool (is_tester_request x)) [
@@ -57,6 +59,7 @@ module _ (past : List Message) (x : Message) where
         ]
       ]
 
+  -- and no other
   pub only-role : (role : MessageRole) → HasRole past x role → role ≡ role_behind past x
   only-role as_request h = rw h refl
   only-role as_answer h = let w = waits-open past h.0 h.1 in rw (answer-not-request h.0 x h.2, w.1, h.2) refl

@@ -1,5 +1,6 @@
 -- The number of the open exchange, with one more message.
-use Rattle.std.proofs.Common.{◌≡◌, ℕ, ◌-◌, not, ◌&&◌, ◌+◌, List, [], ◌∷◌, ◌++◌, length, Option, Some, None, arith, refl, ◌∙◌, ap, inl, inr, length-append, option_map}
+use Rattle.std.proofs.Common.{◌≡◌, ℕ, ◌-◌, not, ◌&&◌, ◌+◌, List, [], ◌∷◌, ◌++◌, length, Option, Some, None, arith, refl, ◌∙◌}
+use Rattle.std.proofs.Common.{ap, inl, inr, length-append, option_map}
 use Rattle.std.proofs.lemmas.Bool.{cases_Bool}
 use Rattle.direction.specs.Dir.{Message}
 use Rattle.uds_message.specs.Message.{sid, is_final_for, is_pending_for}
@@ -12,7 +13,7 @@ use Rattle.uds_exchange.specs.proving.ItemNumbers.{open_number_if_any, item_coun
 use Rattle.uds_exchange.specs.declared.step.Step.{Step}
 use Rattle.uds_exchange.specs.declared.step.Step.TheVariants as step
 use Rattle.uds_exchange.proofs.HeldOfMore.{open-sid-next, held-next}
-use Rattle.uds_exchange.proofs.ItemCounts.{items-next}
+use Rattle.uds_exchange.proofs.ItemCounts.{items_grow}
 
 abbrev number-of : Option ℕ → List Message → ℕ → Option ℕ
 number-of open_sid holds items = option_map (λ service. items - length holds) open_sid
@@ -51,7 +52,8 @@ number-by-step step.Removed M x is = refl
 number-by-step step.Hold M x is = held-on (option_map sid (open_request M)) (length (meaning M)) (held M) x
 number-by-step step.Pass M x is = passed-by (option_map sid (open_request M)) (length (meaning M)) (length (held M)) x is
 
-pub waits-next : (M : List Message) (x : Message) → open_number_if_any (M ++ x ∷ [])
+-- the number of the open exchange with one more message, by what becomes of it
+pub open_number_goes_on : (M : List Message) (x : Message) → open_number_if_any (M ++ x ∷ [])
     ≡ open_number_after_step (step_after M x) (number_after M x) (open_number_if_any M)
-waits-next M x =
-    (λ i. number-of (open-sid-next M x i) (held-next M x i) (items-next M x i)) ∙ number-by-step (step_after M x) M x refl
+open_number_goes_on M x =
+    (λ i. number-of (open-sid-next M x i) (held-next M x i) (items_grow M x i)) ∙ number-by-step (step_after M x) M x refl

@@ -10,7 +10,7 @@ use Rattle.uds_exchange.specs.proving.OpenExchange.{open_exchange_in}
 use Rattle.uds_exchange.specs.proving.Pairing.{items_with_other, items_with}
 use Rattle.uds_exchange.specs.Roles.{as_request, those_removed}
 use Rattle.uds_exchange.proofs.OpenRequests.{open-request-waits}
-use Rattle.uds_exchange.proofs.MeaningOfMore.{meaning-append}
+use Rattle.uds_exchange.proofs.MeaningOfMore.{meaning_goes_on}
 use Rattle.uds_exchange.proofs.RemovedByRole.{removed_messages-append}
 use Rattle.uds_exchange.proofs.OneRole.{role_by}
 use Rattle.uds_exchange.proofs.OpenExchange.{request_of, open_exchange-stray, open_exchange-request, open_exchange-answered}
@@ -46,7 +46,7 @@ waits-with its x =
 pub open_request_goes_on : OpenRequestGoesOn
 open_request_goes_on M x =
     open-request-waits (meaning (M ++ x ∷ []))
-    ∙ ap (λ its. request_of (open_exchange_in its)) (meaning-append M x)
+    ∙ ap (λ its. request_of (open_exchange_in its)) (meaning_goes_on M x)
     ∙ waits-with (meaning M) x
     ∙ ap (λ o. open_with o x) (sym (open-request-waits (meaning M)))
 

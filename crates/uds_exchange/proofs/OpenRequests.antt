@@ -13,7 +13,7 @@ use Rattle.uds_exchange.specs.proving.Pairing.{items_with_other, items_with}
 use Rattle.uds_exchange.specs.Order.{has_exchange, open_request_in, open_request}
 use Rattle.uds_exchange.proofs.ListTests.{any-append}
 use Rattle.uds_exchange.proofs.OpenExchange.{open_exchange-stray, open_exchange-request, open_exchange-answered, request_of, same-request}
-use Rattle.uds_exchange.proofs.MeaningOfMore.{meaning-append}
+use Rattle.uds_exchange.proofs.MeaningOfMore.{meaning_goes_on}
 use Rattle.uds_exchange.proofs.Replies.{from-tester, request-bytes}
 
 -- the exchange that waits still does after a message that is neither request nor answer
@@ -32,7 +32,7 @@ waits-over past (x ∷ xs) w h r a =
     let r' = or_parts (is_tester_request x) (list_any is_tester_request xs) r in
     let a' = or_parts (is_answer_to w.1 x) (list_any (is_answer_to w.1) xs) a in
     rw (← append_assoc past (x ∷ []) xs)
-    (waits-over (past ++ x ∷ []) xs w (ap open_exchange_in (meaning-append past x) ∙ still-waits (meaning past) w x h r'.0 a'.0) r'.1 a'.1)
+    (waits-over (past ++ x ∷ []) xs w (ap open_exchange_in (meaning_goes_on past x) ∙ still-waits (meaning past) w x h r'.0 a'.0) r'.1 a'.1)
 
 -- the exchange of the open request waits
 pub waits-open : (past : List Message) (r : List ℕ) → IsOpenBehind past r → (k : ℕ) × (open_exchange_in (meaning past) ≡ Some (k, r))
@@ -40,11 +40,12 @@ waits-open past r o =
     let place = length (meaning o.earlier) in
     let here : open_exchange_in (items_with (meaning o.earlier) (Tester, r))
     ≡ Some (place, r) = rw o.is_one (open_exchange-request (meaning o.earlier) r) in
-    let first = ap open_exchange_in (meaning-append o.earlier (Tester, r)) ∙ here in
+    let first = ap open_exchange_in (meaning_goes_on o.earlier (Tester, r)) ∙ here in
     let whole = waits-over (o.earlier ++ (Tester, r) ∷ []) o.since (place, r) first o.is_last o.is_unanswered in
     let split = o.place ∙ sym (append_assoc o.earlier ((Tester, r) ∷ []) o.since) in
     (place, ap (λ l. open_exchange_in (meaning l)) split ∙ whole)
 
+-- the request that is open behind these messages is that of the exchange that waits
 pub same-open : (past : List Message) (r : List ℕ) (w : ℕ × List ℕ) → IsOpenBehind past r → open_exchange_in (meaning past) ≡ Some w → r ≡ w.1
 same-open past r w o h = let found = waits-open past r o in ap (λ v. v.1) (same_Some _ _ (sym found.1 ∙ h))
 
@@ -91,7 +92,7 @@ opens-by past x (Some v) s r h w e =
 
 opens-join : (past : List Message) (x : Message) → Opens past → Opens (past ++ x ∷ [])
 opens-join past x s = λ w e.
-    let e' : open_exchange_in (items_with (meaning past) x) ≡ Some w = ap open_exchange_in (sym (meaning-append past x)) ∙ e in
+    let e' : open_exchange_in (items_with (meaning past) x) ≡ Some w = ap open_exchange_in (sym (meaning_goes_on past x)) ∙ e in
     elim (cases_Bool (is_tester_request x)) [
       | inl r ↦
           (let same : (length (meaning past), x.1) ≡ w = same_Some _ _ (sym (open_exchange-request (meaning past) x.1) ∙ rw r at e') in
@@ -119,8 +120,9 @@ waits-by : (o : Option (ℕ × List ℕ)) (r : List ℕ) → request_of o ≡ So
 waits-by None r h = cc
 waits-by (Some w) r h = (w, refl, same_Some _ _ h)
 
-pub open-request-behind : (M : List Message) (r : List ℕ) → (open_request M ≡ Some r) ↔ IsOpenBehind M r
-open-request-behind M r = (
+-- the open request is the last one, and unanswered
+pub open_request_is_last : (M : List Message) (r : List ℕ) → (open_request M ≡ Some r) ↔ IsOpenBehind M r
+open_request_is_last M r = (
   λ h.
       let w = waits-by (open_exchange_in (meaning M)) r (sym (open-request-waits (meaning M)) ∙ h) in
       subst (IsOpenBehind M) w.2 (opens M w.0 w.1),

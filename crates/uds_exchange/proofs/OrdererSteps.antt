@@ -14,8 +14,8 @@ use Rattle.uds_exchange.specs.MessageSink.{AfterOk, AfterErr, Puts}
 use Rattle.uds_exchange.specs.declared.order_fault.OrderFault.{OrderFault}
 use Rattle.uds_exchange.specs.declared.order_fault.OrderFault.TheVariants as fault
 use Rattle.uds_exchange.proofs.OpenExchange.{sid_of}
-use Rattle.uds_exchange.proofs.EarlyOfMore.{early-then-held, due_by, due_in, early-append}
-use Rattle.uds_exchange.proofs.PuttingMessages.{puts-append}
+use Rattle.uds_exchange.proofs.EarlyOfMore.{early_then_held, due_by, due_in, early-append}
+use Rattle.uds_exchange.proofs.PuttingMessages.{puts_join}
 use Rattle.uds_exchange.proofs.HeldOfMore.{open-sid-is, held-next}
 
 due-by-same : (w : Option (ℕ × List ℕ)) (xs : List Message) (x : Message) → is_tester_request x ≡ false
@@ -51,19 +51,22 @@ pub ordered-next : (M : List Message) (x : Message) (s : Step) (o : JudgedOrdere
 ordered-next M x s o is step_is = (λ i. orderer_after_step (step_is i) (is i) x) ∙ orderer-grows M x
 
 module _ {S E : Type 0} (after_ok : AfterOk S) (after_err : AfterErr S E) where
+  -- what one more message makes due is what the orderer puts
   pub puts-due : (M : List Message) (x : Message) (by : Step) (o : JudgedOrdererValue) (s t : S) → o ≡ judged_orderer_after M → by ≡ step_after M x
       → Puts after_ok s (due_for by o.holds x) t → PutsDue after_ok M x s t
   puts-due M x by o s t is step_is h = (due_for by o.holds x, due-from M x by o is step_is, h)
 
-  pub puts-go-on : (s t u : S) (M : List Message) (x : Message) → Puts after_ok s (early M) t → PutsDue after_ok M x t u
+  -- what is early, and then what becomes due, is what is early with one more message
+  pub puts_go_on : (s t u : S) (M : List Message) (x : Message) → Puts after_ok s (early M) t → PutsDue after_ok M x t u
       → Puts after_ok s (early (M ++ x ∷ [])) u
-  puts-go-on s t u M x h d =
-      subst (λ (l : List Message). Puts after_ok s l u) (sym d.1) (puts-append after_ok after_err s t u (early M) d.0 h d.2)
+  puts_go_on s t u M x h d =
+      subst (λ (l : List Message). Puts after_ok s l u) (sym d.1) (puts_join after_ok after_err s t u (early M) d.0 h d.2)
 
-  pub puts-end : (s t u : S) (M : List Message) → Puts after_ok s (early M) t → Puts after_ok t (held M) u
+  -- what is early and then what is held are all messages of the meaning
+  pub puts_end : (s t u : S) (M : List Message) → Puts after_ok s (early M) t → Puts after_ok t (held M) u
       → Puts after_ok s (flattened (meaning M)) u
-  puts-end s t u M h d =
-      subst (λ (l : List Message). Puts after_ok s l u) (early-then-held M) (puts-append after_ok after_err s t u (early M) (held M) h d)
+  puts_end s t u M h d =
+      subst (λ (l : List Message). Puts after_ok s l u) (early_then_held M) (puts_join after_ok after_err s t u (early M) (held M) h d)
 
   pub stops-due : (M : List Message) (x : Message) (by : Step) (o p : JudgedOrdererValue) (s t : S) (f : OrderFault E)
       → o ≡ judged_orderer_after M → by ≡ step_after M x

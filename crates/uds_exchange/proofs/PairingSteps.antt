@@ -12,8 +12,8 @@ use Rattle.uds_exchange.specs.OneMessage.{step_if_open, step_of}
 use Rattle.uds_exchange.specs.Judging.{step_after}
 use Rattle.uds_exchange.specs.declared.step.Step.{Step}
 use Rattle.uds_exchange.proofs.OpenExchange.{sid_of, open_exchange-stray, open_exchange-request, open_exchange-at, open_exchange-answered}
-use Rattle.uds_exchange.proofs.MeaningOfMore.{meaning-append}
-use Rattle.uds_exchange.proofs.HeldOfMore.{step-is}
+use Rattle.uds_exchange.proofs.MeaningOfMore.{meaning_goes_on}
+use Rattle.uds_exchange.proofs.HeldOfMore.{step_by_items}
 
 join_by-step : (its : List ItemValue) (w : Option (ℕ × List ℕ)) (x : Message)
     → items_with_other w its x ≡ items_after_step (step_if_open (sid_of w) x) w its x
@@ -32,8 +32,8 @@ join-step its x =
 pub items-found : (M : List Message) (x : Message) (s : Step) (its : List ItemValue) → its ≡ meaning M → s ≡ step_after M x
     → items_after_step s (open_exchange_in its) its x ≡ meaning (M ++ x ∷ [])
 items-found M x s its is step_is =
-    (λ i. items_after_step ((step_is ∙ sym (step-is M x)) i) (open_exchange_in (is i)) (is i) x) ∙ sym (join-step (meaning M) x)
-    ∙ sym (meaning-append M x)
+    (λ i. items_after_step ((step_is ∙ sym (step_by_items M x)) i) (open_exchange_in (is i)) (is i) x) ∙ sym (join-step (meaning M) x)
+    ∙ sym (meaning_goes_on M x)
 
 -- ---- the exchange that waits, by its place
 

@@ -15,7 +15,7 @@ use Rattle.uds_exchange.specs.Order.{has_exchange}
 use Rattle.uds_exchange.specs.proving.OpenExchange.{open_exchange_in}
 use Rattle.uds_exchange.specs.proving.Pairing.{items_with_other}
 use Rattle.uds_exchange.proofs.OpenExchange.{one_later-some}
-use Rattle.uds_exchange.proofs.MeaningOfMore.{meaning-append}
+use Rattle.uds_exchange.proofs.MeaningOfMore.{meaning_goes_on}
 use Rattle.uds_exchange.proofs.RequestsInParts.{Quiet, quiet-before_requests, quiet-strays_in, Good, good-parts}
 use Rattle.uds_exchange.proofs.MessagesOfParts.{flattened-push}
 use Rattle.uds_exchange.proofs.Replies.{from-tester, from-unit}
@@ -102,7 +102,7 @@ placed-by its x (Some w) s h =
 pub flattened-meaning-append : (M : List Message) (x : Message)
     → flattened (meaning (M ++ x ∷ [])) ≡ placed (role_behind M x) (flattened (meaning M)) x
 flattened-meaning-append M x =
-    ap flattened (meaning-append M x) ∙ elim (cases_Bool (is_tester_request x)) [
+    ap flattened (meaning_goes_on M x) ∙ elim (cases_Bool (is_tester_request x)) [
       | inl e ↦ rw e (flattened-push (meaning M) (exchange x.1 None) x (ap (λ y. y ∷ []) (from-tester x e)))
       | inr e ↦ rw e (placed-by (meaning M) x (open_exchange_in (meaning M)) (sound-meaning M) refl)
     ]

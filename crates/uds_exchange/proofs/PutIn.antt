@@ -9,7 +9,7 @@ use Rattle.uds_exchange.specs.Judging.{step_after}
 use Rattle.uds_exchange.specs.Order.{early, held}
 use Rattle.uds_exchange.specs.proving.Steps.{held_after_step}
 use Rattle.uds_exchange.specs.proving.Ordering.{due_for}
-use Rattle.uds_exchange.proofs.EarlyOfMore.{early-then-held}
+use Rattle.uds_exchange.proofs.EarlyOfMore.{early_then_held}
 use Rattle.uds_exchange.proofs.HeldOfMore.{held-next}
 use Rattle.uds_exchange.proofs.OrdererSteps.{early-due}
 
@@ -35,5 +35,5 @@ put_in_by step.Pass front holds x = record { front = front; rest = holds; was = 
 pub one_more_is_put_in : OneMoreIsPutIn
 one_more_is_put_in M x =
     let after : (early M ++ due_for (step_after M x) (held M) x) ++ held_after_step (step_after M x) (held M) x ≡ flattened (meaning (M ++ x ∷ [])) =
-    (λ i. sym (early-due M x) i ++ sym (held-next M x) i) ∙ early-then-held (M ++ x ∷ []) in
-    rw (← early-then-held M, ← after) (put_in_by (step_after M x) (early M) (held M) x)
+    (λ i. sym (early-due M x) i ++ sym (held-next M x) i) ∙ early_then_held (M ++ x ∷ []) in
+    rw (← early_then_held M, ← after) (put_in_by (step_after M x) (early M) (held M) x)

@@ -2,6 +2,7 @@
 use Rattle.std.proofs.Common.{◌≡◌, Result, Ok, Err, IfOk, IfErr, OnOk, OnErr, sym, subst, ◌∙◌}
 use Rattle.std.specs.Prelude.{IsErrAnd}
 
+-- what holds of an error holds of it after a step that follows from it
 pub if_err_along : {T E : Type 0} (r : Result T E) (P Q : E → Type 0) → ((e : E) → P e → Q e) → IfErr r P → IfErr r Q
 if_err_along (Ok x) P Q f h = tt
 if_err_along (Err e) P Q f h = f e h
@@ -11,6 +12,7 @@ pub if_ok_by : {T E : Type 0} (r : Result T E) (B : Type 0) (P Q : T → Type 0)
 if_ok_by (Ok x) B P Q f b p = f b x p
 if_ok_by (Err e) B P Q f b p = tt
 
+-- what holds whatever the result is, holds where it is an error
 pub on_err : {T E : Type 0} (r : Result T E) (P : Type 0) → P → OnErr r P
 on_err (Ok x) P h = tt
 on_err (Err e) P h = h

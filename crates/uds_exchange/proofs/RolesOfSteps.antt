@@ -8,7 +8,7 @@ use Rattle.uds_exchange.specs.Meaning.{is_tester_request, is_answer_to, is_pendi
 use Rattle.uds_exchange.specs.OneMessage.{step_if_open, step_of}
 use Rattle.uds_exchange.specs.Roles.{HasRole, as_request}
 use Rattle.uds_exchange.specs.proving.OpenExchange.{open_exchange_in}
-use Rattle.uds_exchange.proofs.HeldOfMore.{step-is}
+use Rattle.uds_exchange.proofs.HeldOfMore.{step_by_items}
 use Rattle.uds_exchange.proofs.OpenExchange.{sid_of}
 use Rattle.uds_exchange.proofs.OneRole.{role_by, role_behind, has-role}
 
@@ -26,7 +26,7 @@ role-of : (w : Option (ℕ × List ℕ)) (x : Message)
 role-of w x = elim (cases_Bool (is_tester_request x)) [ inl e ↦ rw e refl | inr e ↦ rw e (role-if-open w x) ]
 
 role-after : (M : List Message) (x : Message) → role_behind M x ≡ role_of_step (step_after M x)
-role-after M x = role-of (open_exchange_in (meaning M)) x ∙ ap role_of_step (step-is M x)
+role-after M x = role-of (open_exchange_in (meaning M)) x ∙ ap role_of_step (step_by_items M x)
 
 pub step_tells_the_role : StepTellsTheRole
 step_tells_the_role M x = subst (HasRole M x) (role-after M x) (has-role M x)

@@ -42,14 +42,14 @@ abbrev pub IsOpenSid : List Message → Option ℕ → Type 0
 IsOpenSid M open_sid = open_sid ≡ option_map sid (open_request M)
 
 -- A judge has counted these messages: it keeps which request is open, how many items there are, how many strays are
--- held, and how many messages are left out.
+-- held, and how many messages are removed.
 pub record HasCounted (M : List Message) (judge : Judge) : Type 0 where
   pub is_open : IsOpenSid M judge.open_sid
   pub items : judge.items ≡ length (meaning M)
   pub held_count : judge.held_count ≡ length (held M)
   pub removed : judge.removed ≡ length (removed_messages M)
 
--- A judge is that of these messages: it has counted them, and has what tells whether tester and unit look exchanged.
+-- A judge is that of these messages: it has counted them, and has what tells whether tester and unit look swapped.
 pub record IsJudgeOf (M : List Message) (judge : Judge) : Type 0 where
   pub counted : HasCounted M judge
   pub sides : judge.sides ≡ sides_of M

@@ -2,7 +2,8 @@
 use Rattle.std.specs.Prelude.{◌≡◌, ◌≢◌, ◌↔◌, ℕ, ◌+◌, Bool, true, List, [], ◌∷◌, ◌++◌, map, Option, Some, None, length, if◌then◌else◌}
 use Rattle.std.specs.List.{list_all}
 use Rattle.direction.specs.Dir.{Message}
-use Rattle.uds_exchange.specs.Meaning.{is_tester_request, is_answer_to, is_pending_reply_to, ItemValue, exchange, stray_of, meaning, flattened, removed_messages}
+use Rattle.uds_exchange.specs.Meaning.{is_tester_request, is_answer_to, is_pending_reply_to, ItemValue, exchange, stray_of}
+use Rattle.uds_exchange.specs.Meaning.{meaning, flattened, removed_messages}
 use Rattle.uds_exchange.specs.Decided.{decided, undecided}
 use Rattle.uds_exchange.specs.Roles.{MessageRole, as_request, as_answer, as_removed, as_stray, IsOpenBehind, HasRole, AreRoles, arranged, those_removed}
 use Rattle.uds_exchange.specs.Judging.{step_after}
@@ -87,7 +88,7 @@ pub record IsPutIn (before : List Message) (message : Message) (after : List Mes
   pub was : before ≡ front ++ rest
   pub is : after ≡ front ++ message ∷ rest
 
--- by what becomes of a message, it is left out or put in
+-- by what becomes of a message, it is removed or put in
 abbrev pub IsPutInBy : Step → List Message → Message → List Message → Type 0
 IsPutInBy (step.Request service) before message after = IsPutIn before message after
 IsPutInBy step.Answer before message after = IsPutIn before message after

@@ -15,7 +15,7 @@ pub record IsOpenBehind (past : List Message) (request : List ℕ) : Type 0 wher
   pub is_last : list_any is_tester_request since ≡ false
   pub is_unanswered : list_any (is_answer_to request) since ≡ false
 
--- what a message is to its list: a request, the answer to one, a pending reply that is left out, or none of these
+-- what a message is to its list: a request, the answer to one, a pending reply that is removed, or none of these
 pub data MessageRole : Type 0 where
   as_request : MessageRole
   as_answer : MessageRole
@@ -67,7 +67,7 @@ abbrev pub arranged : List Message → List Message → List MessageRole → Lis
 arranged out (message ∷ later) (role ∷ roles) = arranged (placed role out message) later roles
 arranged out messages roles = out
 
--- whether a role is that of a pending reply that is left out
+-- whether a role is that of a pending reply that is removed
 abbrev pub is_removed : MessageRole → Bool
 is_removed as_removed = true
 is_removed role = false

@@ -22,7 +22,7 @@ use std::marker::Model;
 
 /// Puts the items of a meaning in order into a sink, each as soon as nothing that follows can change it: an exchange
 /// when its answer comes or the next request does, and the strays after it then too. It keeps the open request, and the
-/// messages that are held behind it. A reply that is left out is neither kept nor put.
+/// messages that are held behind it. A reply that is removed is neither kept nor put.
 #[derive(Debug, Drop)]
 pub struct Decider {
     alloc: Global,

@@ -19,7 +19,7 @@ pub struct Judged<'a> {
     pub bytes: &'a [u8],
     /// What becomes of it.
     pub step: Step,
-    /// The number of its item, from 1. A reply that is left out has that of the exchange that it puts off.
+    /// The number of its item, from 1. A reply that is removed has that of the exchange that it puts off.
     pub item_number: u64,
 }
 
@@ -32,9 +32,9 @@ pub struct Judge {
     items: u64,
     /// How many of them are strays behind the open request.
     held_count: u64,
-    /// How many replies were left out.
+    /// How many replies were removed.
     removed: u64,
-    /// What tells whether tester and unit are exchanged.
+    /// What tells whether tester and unit are swapped.
     sides: Sides,
 }
 
@@ -78,14 +78,14 @@ impl Judge {
         }
     }
 
-    /// How many replies were left out.
+    /// How many replies were removed.
     pub fn removed(&self) -> u64
         ensures { result ≡ self.now.removed }
     {
         self.removed
     }
 
-    /// What tells whether tester and unit are exchanged.
+    /// What tells whether tester and unit are swapped.
     pub fn sides(&self) -> Sides
         ensures { result ≡ self.now.sides }
     {

@@ -56,7 +56,7 @@ impl JudgedOrderer {
     }
 
     /// Takes one more message, and puts all whose place is now known. No memory is taken for a message that is put
-    /// or left out. Whatever is said to become of the message, the call is safe.
+    /// or removed. Whatever is said to become of the message, the call is safe.
     pub fn take<S: MessageSink>(
         &mut self,
         message: Judged<'_>,

@@ -45,7 +45,7 @@ impl JudgedPairing {
         }
     }
 
-    /// Takes one more message. A reply that is left out is not copied. After an `Err` nothing has changed, and the call
+    /// Takes one more message. A reply that is removed is not copied. After an `Err` nothing has changed, and the call
     /// may be made again. Whatever is said to become of the message, the call is safe: an answer where none is awaited
     /// is not taken.
     pub fn take(&mut self, message: Judged<'_>) -> Result<(), AllocError>

@@ -2,7 +2,7 @@
 //!
 //! Requests, answers and pending replies are those of ISO 14229-1 (`uds_message`). A request's part of the messages
 //! runs to the next request. Its answer is the first message of the unit in that part that is final for it; the
-//! replies before the answer that are pending for it are left out. All else is a stray, and stays in order.
+//! replies before the answer that are pending for it are removed. All else is a stray, and stays in order.
 //!
 //! ```text
 //! tester 22 F1 90                exchange 22 F1 90 -> 62 F1 90 41
@@ -18,11 +18,11 @@
 //! | What it answers | Files | Definitions |
 //! |---|---|---|
 //! | [`Judge`]: a message's [`Step`], and its item's number | `judge`, `step` | `OneMessage`, `Judging`, `Numbers` |
-//! | [`Pairing`]: the [`Meaning`], in [`Item`]s | `pairing`, `meaning`, `item` | `Meaning`, `ItemSeen`, `Difference` |
+//! | [`Pairing`], [`JudgedPairing`]: the [`Meaning`], in [`Item`]s | `pairing`, `judged_pairing`, `meaning`, `item` | `Meaning`, `ItemSeen`, `Difference` |
 //! | [`MessageSink`], [`ItemSink`]: who takes what is put | `message_sink`, `item_sink` | `MessageSink`, `ItemSink` |
-//! | [`Orderer`]: the messages in order, each early | `orderer`, `held`, `order_fault` | `Order`, `Orderer` |
+//! | [`Orderer`], [`JudgedOrderer`]: the messages in order, each early | `orderer`, `judged_orderer`, `held`, `order_fault` | `Order`, `Orderer` |
 //! | [`Decider`]: the items, each as soon as it is decided | `decider` | `Decided`, `Decider` |
-//! | [`Sides`]: whether tester and unit look exchanged | `sides` | `Exchanged` |
+//! | [`Sides`]: whether tester and unit look swapped | `sides` | `Exchanged` |
 //! | [`Messages`]: bytes that are kept, each message in its [`Span`] | `messages` | `Blocks` |
 //! | [`laws`]: what holds of meanings, whatever computes them | `laws` | `Roles`, `Laws` |
 //!

@@ -55,7 +55,7 @@ impl Orderer {
     }
 
     /// Takes one more message, and puts all whose place is now known. No memory is taken for a message that is put
-    /// or left out.
+    /// or removed.
     pub fn take<S: MessageSink>(
         &mut self,
         dir: Dir,

@@ -41,7 +41,7 @@ impl Pairing {
         }
     }
 
-    /// Takes one more message. A reply that is left out is not copied. After an `Err` nothing has changed, and the call
+    /// Takes one more message. A reply that is removed is not copied. After an `Err` nothing has changed, and the call
     /// may be made again.
     pub fn take(&mut self, dir: Dir, message: &[u8]) -> Result<(), AllocError>
         ensures ok { OnOk result ((M : List Message) → self.old ≡ meaning M

@@ -11,7 +11,7 @@ use crate::step::Step;
 use direction::Dir;
 use uds_message::{is_response_sid, sid};
 
-/// What tester and unit sent, as far as it tells whether they are exchanged.
+/// What tester and unit sent, as far as it tells whether they are swapped.
 #[derive(Clone, Copy, Debug, PartialEq, Eq)]
 pub struct Sides {
     /// The tester sent a request.
@@ -58,7 +58,7 @@ impl Sides {
         }
     }
 
-    /// Whether tester and unit look exchanged.
+    /// Whether tester and unit look swapped.
     pub fn look_exchanged(&self) -> bool
         ensures { (M : List Message) → self.now ≡ sides_of M → result ≡ Spec.look_exchanged M }
     {

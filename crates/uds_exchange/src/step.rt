@@ -14,7 +14,7 @@ pub enum Step {
     Request(u8),
     /// The answer to the open request.
     Answer,
-    /// A reply that says that the answer to the open request is pending. It is left out of the meaning: it is removed.
+    /// A reply that says that the answer to the open request is pending. It is removed: it is not in the meaning.
     Removed,
     /// None of these, while a request is open: the answer would come before it, so it waits.
     Hold,

@@ -1,5 +1,5 @@
 -- Which asking each unit answered last, after one more frame.
-use Rattle.std.proofs.Common.{◌≡◌, ℕ, ◌+◌, ◌<◌, ◌≤◌, ◌==◌, Bool, true, false, List, [], ◌∷◌, ◌++◌, Option, Some, None, refl, sym, ◌∙◌, ap, subst}
+use Rattle.std.proofs.Common.{◌≡◌, ℕ, ◌+◌, ◌≤◌, ◌==◌, Bool, true, false, List, [], ◌∷◌, ◌++◌, Some, None, refl, sym, ◌∙◌, ap}
 use Rattle.std.proofs.Common.{arith}
 use Rattle.std.proofs.lemmas.Bool.{and_from, and_parts, eqb-true}
 use Rattle.std.specs.List.{count_by}
@@ -9,11 +9,9 @@ use Rattle.can_log.specs.declared.frame.Id.{Id}
 use Rattle.uds_find.specs.Credit.{answers_from, asks_for, credited_to, has_answered, is_answer_of, is_asking_of, is_same, last_asker}
 use Rattle.uds_find.specs.Finding.{TellsAnswered, is_same_unit_service}
 use Rattle.uds_find.specs.Mention.{mention_of}
-use Rattle.uds_find.specs.declared.mention.Mention.{Mention}
 use Rattle.uds_find.specs.declared.mention.Mention.TheVariants.{Asks, Answers}
-use Rattle.uds_find.specs.declared.pair.IdPair.{IdPair}
 use Rattle.uds_find.specs.declared.pair.UnitService.{UnitService}
-use Rattle.uds_find.proofs.Askers.{asker-asked, asker-kept, askings-asked, askings-kept, answered-asked, answered-more}
+use Rattle.uds_find.proofs.Askers.{asker-kept, askings-asked, askings-kept, answered-asked, answered-more}
 use Rattle.uds_find.proofs.Orders.{one-unit-service}
 use lib.Dec.{eqb}
 

@@ -1,15 +1,15 @@
 -- Whoever an answer is credited to is the identifier of the last frame that asks for the service, and has no answer of
 -- it yet.
-use Rattle.std.proofs.Common.{◌≡◌, ℕ, ◌<◌, Bool, true, false, List, [], ◌∷◌, ◌++◌, Option, Some, None, refl, sym, ◌∙◌, ap, subst, inl, inr, ◌⊎◌}
+use Rattle.std.proofs.Common.{◌≡◌, ℕ, Bool, true, false, List, [], ◌∷◌, ◌++◌, Option, Some, None, refl, sym, ◌∙◌, ap, subst, inl, inr, ◌⊎◌}
 use Rattle.std.proofs.Common.{append_assoc, arith}
 use Rattle.std.proofs.lemmas.Bool.{and_from, eqb-true}
 use Rattle.std.proofs.lemmas.List.{append-nil}
 use Rattle.std.proofs.lemmas.List.Folds.{list_any-append}
 use Rattle.std.specs.List.{after_last, filter, last_or, list_any}
-use Rattle.std.specs.Prelude.{◌||◌, ◌&&◌, ◌==◌, if◌then◌else◌}
+use Rattle.std.specs.Prelude.{◌||◌, ◌==◌, if◌then◌else◌}
 use Rattle.can_log.specs.Frame.{FrameValue}
 use Rattle.can_log.specs.declared.frame.Id.{Id}
-use Rattle.uds_find.specs.Credit.{answers_from, asks_for, credit, credit_of_mention, credited_to, has_answered, is_answer_of, is_asking_of, is_same}
+use Rattle.uds_find.specs.Credit.{answers_from, asks_for, credit_of_mention, credited_to, has_answered, is_answer_of, is_asking_of, is_same}
 use Rattle.uds_find.specs.Credit.{last_asker, sender_of}
 use Rattle.uds_find.specs.Laws.{AsksLast, CreditIsAsked, SecondAnswerHasNoCredit}
 use Rattle.uds_find.specs.Mention.{mention_of}

@@ -1,17 +1,22 @@
--- How many credits each pair has, and how many requests each identifier sent, after one more frame.
-use Rattle.std.proofs.Common.{◌≡◌, ℕ, ◌+◌, ◌≤◌, ◌==◌, Bool, true, false, List, [], ◌∷◌, ◌++◌, Option, Some, None, length, refl, sym, ◌∙◌, ap, arith}
+-- How many credits each pair has, how many requests each identifier sent, and which ones are functional, after one more
+-- frame.
+use Rattle.std.proofs.Common.{◌≡◌, ℕ, ◌+◌, ◌≤◌, Bool, true, false, List, [], ◌∷◌, ◌++◌, Option, Some, None, length, refl, sym, ◌∙◌, ap, arith}
 use Rattle.std.proofs.Common.{append_assoc, suc}
 use Rattle.std.proofs.lemmas.List.{append-nil}
-use Rattle.std.proofs.lemmas.List.Sums.{sum_by-append, sum_by_push, count_by-le-length}
-use Rattle.std.specs.List.{cons_option, count_by}
-use Rattle.std.specs.Prelude.{if◌then◌else◌, ◌&&◌}
+use Rattle.std.proofs.lemmas.List.Folds.{list_any-append}
+use Rattle.std.proofs.lemmas.List.Sums.{sum_by_push, count_by-le-length}
+use Rattle.std.specs.List.{cons_option, count_by, list_any}
+use Rattle.std.specs.Prelude.{if◌then◌else◌, ◌&&◌, ◌||◌}
 use Rattle.can_log.specs.Frame.{FrameValue}
 use Rattle.can_log.specs.declared.frame.Id.{Id}
-use Rattle.uds_find.specs.Asking.{asks, is_asking, request_count}
-use Rattle.uds_find.specs.Credit.{credit, credits, credits_after, credit_count, is_same, is_same_pair}
+use Rattle.uds_find.specs.Asking.{asks, request_count}
+use Rattle.isotp_pdu.specs.Reading.{layout_of}
+use Rattle.uds_find.specs.Credit.{credit, credits, credits_after, credit_count, has_credited_after, is_credited_answer, is_same, is_same_pair}
+use Rattle.uds_find.specs.Functional.{is_functional, is_functional_frame, is_functional_identifier, is_single}
 use Rattle.uds_find.specs.Finding.{one_more}
-use Rattle.uds_find.specs.Mention.{mention_of}
+use Rattle.uds_find.specs.Laws.{FunctionalIsIdentifier}
 use Rattle.uds_find.specs.declared.pair.IdPair.{IdPair}
+use Rattle.uds_find.proofs.Orders.{same-identifier}
 
 -- the credits of one frame more
 pub credits-more : (past frames : List FrameValue) (frame : FrameValue)
@@ -93,3 +98,60 @@ requests-silent asker frames frame silent =
   where
     nothing-more : (n : ℕ) → n ≡ n + 0
     nothing-more n = omega arith
+
+-- ---- credited answers of a unit and a service
+
+-- one frame more
+pub credited-more : (service : ℕ) (unit : Id) (past frames : List FrameValue) (frame : FrameValue)
+    → has_credited_after service unit past (frames ++ frame ∷ [])
+    ≡ (has_credited_after service unit past frames || is_credited_answer service unit (past ++ frames) frame)
+unfolding has_credited_after
+credited-more service unit past [] frame =
+    or-nothing (is_credited_answer service unit past frame)
+    ∙ ap (λ before. is_credited_answer service unit before frame) (sym (append-nil past))
+  where
+    or-nothing : (b : Bool) → (b || false) ≡ b
+    or-nothing true = refl
+    or-nothing false = refl
+credited-more service unit past (first ∷ rest) frame =
+    behind (is_credited_answer service unit past first) _ _ _
+    (credited-more service unit (past ++ first ∷ []) rest frame
+    ∙ ap (λ before. has_credited_after service unit (past ++ first ∷ []) rest || is_credited_answer service unit before frame)
+    (append_assoc past (first ∷ []) rest))
+  where
+    behind : (one a b c : Bool) → a ≡ (b || c) → (one || a) ≡ ((one || b) || c)
+    behind true a b c is = refl
+    behind false a b c is = is
+
+-- ---- functional frames
+
+-- one frame more
+pub functional-more : (one : Id) (frames : List FrameValue) (frame : FrameValue)
+    → is_functional (frames ++ frame ∷ []) one ≡ (is_functional frames one || (is_functional_frame frame && is_same one frame.id))
+unfolding is_functional
+functional-more one frames frame =
+    list_any-append (λ frame. is_functional_frame frame && is_same one frame.id) frames (frame ∷ [])
+    ∙ ap (λ b. list_any (λ frame. is_functional_frame frame && is_same one frame.id) frames || b)
+    (or-nothing (is_functional_frame frame && is_same one frame.id))
+  where
+    or-nothing : (b : Bool) → (b || false) ≡ b
+    or-nothing true = refl
+    or-nothing false = refl
+
+-- whatever is functional is an identifier for functional requests
+pub functional-identifier : (one : Id) (frames : List FrameValue) → is_functional frames one ≡ true → is_functional_identifier one ≡ true
+unfolding is_functional
+functional-identifier one [] is = absurd (cc is)
+functional-identifier one (frame ∷ rest) is =
+    by (is_functional_identifier frame.id) (is_single (layout_of frame)) (is_same one frame.id) refl refl is
+    (functional-identifier one rest)
+  where
+    by : (a b c : Bool) → is_functional_identifier frame.id ≡ a → is_same one frame.id ≡ c → (((a && b) && c) || is_functional rest one) ≡ true
+        → (is_functional rest one ≡ true → is_functional_identifier one ≡ true) → is_functional_identifier one ≡ true
+    by true true true one_is same some later = ap is_functional_identifier (same-identifier one frame.id same) ∙ one_is
+    by true true false one_is same some later = later some
+    by true false c one_is same some later = later some
+    by false b c one_is same some later = later some
+
+pub functional_is_identifier : FunctionalIsIdentifier
+functional_is_identifier frames one is = functional-identifier one frames is

@@ -5,7 +5,11 @@ pub mod Counting
 pub mod Askers
 pub mod Answered
 pub mod Places
+pub mod Starting
+pub mod Placing
 pub mod Standing
+pub mod Thirds
+pub mod Kept
 pub mod Firsts
 pub mod Listing
 pub mod Asking

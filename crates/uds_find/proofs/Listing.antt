@@ -1,24 +1,24 @@
 -- The lines of what was counted are those of the definitions.
 use Rattle.std.proofs.Common.{◌≡◌, ℕ, zero, suc, ◌<◌, ◌==◌, Bool, true, false, List, [], ◌∷◌, Option, Some, None, length, map, refl, sym, ◌∙◌, ap}
 use Rattle.std.proofs.Common.{subst, arith, inl, inr}
-use Rattle.std.proofs.lemmas.Bool.{and_parts, eqb-true}
+use Rattle.std.proofs.lemmas.Bool.{eqb-true}
 use Rattle.std.proofs.lemmas.List.Elements.{All-map}
 use Rattle.std.proofs.lemmas.List.Sums.{count_by-le-length}
 use Rattle.std.proofs.lemmas.Map.Entries.{lookup_from_place, place_from_lookup}
-use Rattle.std.specs.Cmp.{IsEquivalence}
-use Rattle.std.specs.List.{IsDistinct, list_any, slice_get}
+use Rattle.std.specs.List.{IsDistinct, slice_get}
 use Rattle.std.specs.List.Sorted.{IsPermutation, IsSorted}
 use Rattle.std.specs.Map.{keys_of, lookup}
-use Rattle.std.specs.Option.{unwrap_or}
+use Rattle.std.specs.Option.{option_map, unwrap_or}
 use Rattle.std.specs.Ordering.{is_lt}
 use Rattle.std.specs.Prelude.{if◌then◌else◌, ◌||◌, slice_index_or, All}
-use Rattle.can_log.specs.Canonical.{identifier_text}
 use Rattle.can_log.specs.Frame.{FrameValue}
 use Rattle.can_log.specs.declared.frame.Id.{Id}
 use Rattle.uds_find.specs.Asking.{request_count}
 use Rattle.uds_find.specs.Credit.{HasCredit, credit_count, credits, is_same, is_same_pair}
-use Rattle.uds_find.specs.Finding.{AreCreditLines, IsTally, counted, credit_line, has_unit, line_order, units_of}
-use Rattle.uds_find.specs.proving.Steps.{candidate_of, credits_in, first_among, line_in, pair_of, requests_in, tester_beside}
+use Rattle.uds_find.specs.Finding.{AreCreditLines, FoundUnit, IsFoundUnit, IsTally, TellsFunctional, counted, credit_line, has_unit, id_text}
+use Rattle.uds_find.specs.Finding.{line_order}
+use Rattle.uds_find.specs.Functional.{is_functional}
+use Rattle.uds_find.specs.proving.Steps.{candidate_of, credits_in, first_among, line_in, pair_of, requests_in, tester_beside, unit_in}
 use Rattle.uds_find.specs.Tester.{IsFirst, IsTesterBeside, IsUnitWithTester, asking_partner, candidate, candidate_order, partner_of}
 use Rattle.uds_find.specs.declared.candidate.Candidate.{Candidate}
 use Rattle.uds_find.specs.declared.pair.CreditLine.{CreditLine}
@@ -26,6 +26,7 @@ use Rattle.uds_find.specs.declared.pair.IdPair.{IdPair}
 use Rattle.uds_find.proofs.Firsts.{IsFirstAmong, IsFrom, has-first, is-first}
 use Rattle.uds_find.proofs.Orders.{ids-equal, one-pair, pairs-equal, same-identifier}
 use Rattle.uds_find.proofs.Tallies.{from-counted}
+use Rattle.uds_find.proofs.Thirds.{third-stands}
 
 mapped-twice : {A B C : Type 0} (f : B → C) (g : A → B) (xs : List A) → map f (map g xs) ≡ map (λ x. f (g x)) xs
 mapped-twice f g [] = refl
@@ -62,20 +63,22 @@ counted-has : (frames : List FrameValue) (pair : IdPair) → 0 < credit_count fr
 unfolding credit_count
 counted-has frames pair above = omega (arith, above, count_by-le-length (λ credited. is_same_pair credited pair) (credits frames))
 
-module _ (frames : List FrameValue) (table : List (IdPair × ℕ)) (requests : List (Id × ℕ))
-    (credited : IsTally is_same_pair (credit_count frames) table) (requested : IsTally is_same (request_count frames) requests) where
+module _ (frames : List FrameValue) (table : List (IdPair × ℕ)) (requests : List (Id × ℕ)) (functional : List Id)
+    (credited : IsTally is_same_pair (credit_count frames) table) (requested : IsTally is_same (request_count frames) requests)
+    (told : TellsFunctional frames functional) where
   credits-are : (pair : IdPair) → credits_in table pair ≡ credit_count frames pair
   credits-are pair = ap (λ o. unwrap_or o 0) (credited.counts pair) ∙ from-counted (credit_count frames pair)
 
   requests-are : (name : Id) → requests_in requests name ≡ request_count frames name
   requests-are name = ap (λ o. unwrap_or o 0) (requested.counts name) ∙ from-counted (request_count frames name)
 
-  line-is : (pair : IdPair) → line_in table requests pair ≡ credit_line frames pair
-  line-is pair = λ i. record {
-    credits = credits-are pair i;
-    requests = requests-are pair.tester i;
-    tester = record { items = identifier_text pair.tester };
-    unit = record { items = identifier_text pair.unit };
+  line-is : (found : FoundUnit) → line_in table requests found ≡ credit_line frames found
+  line-is found = λ i. record {
+    credits = credits-are found.pair i;
+    requests = requests-are found.pair.tester i;
+    tester = id_text found.pair.tester;
+    unit = id_text found.pair.unit;
+    functional = option_map id_text found.functional;
   }
 
   -- ---- entries of the table
@@ -93,11 +96,11 @@ module _ (frames : List FrameValue) (table : List (IdPair × ℕ)) (requests : L
       (credited.counts pair ∙ counted-some (credit_count frames pair) above) in
       (place.0, place.2 ∙ ap (λ (p : IdPair). Some (p, credit_count frames pair)) (sym (one-pair pair place.1 place.3)))
 
-  module _ (unit : Id) (c : Candidate) (found : first_among unit None table ≡ Some c) where
-    first-of-unit : IsFirstAmong unit None table c
-    first-of-unit = is-first unit None table c found
+  module _ (unit : Id) (c : Candidate) (found : first_among functional unit None table ≡ Some c) where
+    first-of-unit : IsFirstAmong functional unit None table c
+    first-of-unit = is-first functional unit None table c found
 
-    from-entry : IsFrom unit table c
+    from-entry : IsFrom functional unit table c
     from-entry = elim first-of-unit.from [ inl none ↦ absurd (cc none) | inr from ↦ from ]
 
     its-pair : from-entry.entry.0 ≡ record { tester = c.tester; unit = unit }
@@ -114,8 +117,21 @@ module _ (frames : List FrameValue) (table : List (IdPair × ℕ)) (requests : L
           subst (λ (p : IdPair). 0 < credit_count frames p) its-pair counts.1,
         )
 
+    its-functional : c.functional ≡ is_functional frames c.tester
+    its-functional =
+        sym (ap (λ (x : Candidate). x.functional) from-entry.is) ∙ told.each from-entry.entry.0.tester
+        ∙ ap (is_functional frames) (ap (λ (x : Candidate). x.tester) from-entry.is)
+
     is-candidate : c ≡ candidate frames unit c.tester
-    is-candidate = λ i. record { tester = c.tester; credits = first-counts.0 i }
+    is-candidate = λ i. record { tester = c.tester; credits = first-counts.0 i; functional = its-functional i }
+
+    told-of : (other : Id) → candidate_of functional
+        (record { tester = other; unit = unit }, credit_count frames (record { tester = other; unit = unit })) ≡ candidate frames unit other
+    told-of other = λ i. record {
+      tester = other;
+      credits = credit_count frames (record { tester = other; unit = unit });
+      functional = told.each other i;
+    }
 
     first-stands : IsFirst frames (record { tester = c.tester; unit = unit })
     first-stands = record {
@@ -123,8 +139,9 @@ module _ (frames : List FrameValue) (table : List (IdPair × ℕ)) (requests : L
       first = λ other above.
           let place = entry-of (record { tester = other; unit = unit }) above in
           subst (λ (x : Candidate). is_lt (candidate_order (candidate frames unit other) x) ≡ false) is-candidate
+          (subst (λ (x : Candidate). is_lt (candidate_order x c) ≡ false) (told-of other)
           (first-of-unit.behind place.0 (record { tester = other; unit = unit }, credit_count frames (record { tester = other; unit = unit }))
-          place.1 ((ids-equal.refl) unit));
+          place.1 ((ids-equal.refl) unit)));
     }
 
     tester-stands : IsUnitWithTester frames (pair_of requests (unit, c))
@@ -148,51 +165,51 @@ module _ (frames : List FrameValue) (table : List (IdPair × ℕ)) (requests : L
                 (record { tester = if requests_in requests partner == 0 then c.tester else partner; unit = unit })) (sym asks)
                 (ap (λ b. if b then c.tester else partner) (ap (λ n. n == 0) (requests-are partner) ∙ asks))
 
-  module _ (candidates : List (Id × Candidate)) (each : (unit : Id) → lookup (is_same unit) candidates ≡ first_among unit None table)
+  module _ (candidates : List (Id × Candidate)) (each : (unit : Id) → lookup (is_same unit) candidates ≡ first_among functional unit None table)
       (once : IsDistinct is_same (keys_of candidates)) where
-    pairs : List IdPair
-    pairs = map (pair_of requests) candidates
-
-    all-testers : All (IsUnitWithTester frames) (map (pair_of requests) candidates)
-    all-testers = All-map (IsUnitWithTester frames) (pair_of requests) candidates (λ k d below.
-        let entry = slice_index_or candidates k d in
-        let is = lookup_from_place ids-equal candidates k entry.0 entry.1 once (got candidates k d below) in
-        tester-stands entry.0 entry.1 (sym (each entry.0) ∙ is))
-
-    -- a unit that is found has a pair
-    has-pair : (unit : Id) (c : Candidate) (es : List (Id × Candidate)) → lookup (is_same unit) es ≡ Some c
-        → has_unit (map (pair_of requests) es) unit ≡ true
-    has-pair unit c [] is = absurd (cc is)
-    has-pair unit c (entry ∷ es) is = by (is_same unit entry.0) refl is (λ found. has-pair unit c es found)
+    -- a unit that is found has a line
+    has-line : (unit : Id) (c : Candidate) (es : List (Id × Candidate)) → lookup (is_same unit) es ≡ Some c
+        → has_unit (map (unit_in requests functional) es) unit ≡ true
+    has-line unit c [] is = absurd (cc is)
+    has-line unit c (entry ∷ es) is = by (is_same unit entry.0) refl is (λ found. has-line unit c es found)
       where
         either : (b : Bool) → (b || true) ≡ true
         either true = refl
         either false = refl
 
         by : (b : Bool) → is_same unit entry.0 ≡ b → (if b then Some entry.1 else lookup (is_same unit) es) ≡ Some c
-            → (lookup (is_same unit) es ≡ Some c → has_unit (map (pair_of requests) es) unit ≡ true)
-            → (is_same entry.0 unit || has_unit (map (pair_of requests) es) unit) ≡ true
-        by true same found later = ap (λ b. b || has_unit (map (pair_of requests) es) unit) ((ids-equal.symm) entry.0 unit ∙ same)
+            → (lookup (is_same unit) es ≡ Some c → has_unit (map (unit_in requests functional) es) unit ≡ true)
+            → (is_same entry.0 unit || has_unit (map (unit_in requests functional) es) unit) ≡ true
+        by true same found later = ap (λ b. b || has_unit (map (unit_in requests functional) es) unit) ((ids-equal.symm) entry.0 unit ∙ same)
         by false apart found later = ap (λ b. is_same entry.0 unit || b) (later found) ∙ either (is_same entry.0 unit)
 
-    every-unit : (pair : IdPair) → 0 < credit_count frames pair → has_unit (map (pair_of requests) candidates) pair.unit ≡ true
+    every-unit : (pair : IdPair) → 0 < credit_count frames pair → has_unit (map (unit_in requests functional) candidates) pair.unit ≡ true
     every-unit pair above =
         let place = entry-of pair above in
-        let first = has-first pair.unit None table place.0 (pair, credit_count frames pair) place.1 ((ids-equal.refl) pair.unit) in
-        has-pair pair.unit first.0 candidates (each pair.unit ∙ first.1)
+        let first = has-first functional pair.unit None table place.0 (pair, credit_count frames pair) place.1 ((ids-equal.refl) pair.unit) in
+        has-line pair.unit first.0 candidates (each pair.unit ∙ first.1)
 
-    lines-are : map (λ entry. line_in table requests (pair_of requests entry)) candidates
-        ≡ map (credit_line frames) (map (pair_of requests) candidates)
+    lines-are : map (λ entry. line_in table requests (unit_in requests functional entry)) candidates
+        ≡ map (credit_line frames) (map (unit_in requests functional) candidates)
     lines-are =
-        (λ i. map (λ entry. line-is (pair_of requests entry) i) candidates)
-        ∙ sym (mapped-twice (credit_line frames) (pair_of requests) candidates)
+        (λ i. map (λ entry. line-is (unit_in requests functional entry) i) candidates)
+        ∙ sym (mapped-twice (credit_line frames) (unit_in requests functional) candidates)
 
-    pub credit-lines : (made lines : List CreditLine) → made ≡ map (λ entry. line_in table requests (pair_of requests entry)) candidates
+    all-found : All (IsFoundUnit frames) (map (unit_in requests functional) candidates)
+    all-found = All-map (IsFoundUnit frames) (unit_in requests functional) candidates (λ k d below.
+        let entry = slice_index_or candidates k d in
+        let is = lookup_from_place ids-equal candidates k entry.0 entry.1 once (got candidates k d below) in
+        record {
+          tester = tester-stands entry.0 entry.1 (sym (each entry.0) ∙ is);
+          functional = third-stands frames functional told (pair_of requests entry);
+        })
+
+    pub credit-lines : (made lines : List CreditLine) → made ≡ map (λ entry. line_in table requests (unit_in requests functional entry)) candidates
         → IsPermutation made lines → IsSorted line_order lines → AreCreditLines frames lines
     credit-lines made lines is permuted sorted = record {
-      pairs = map (pair_of requests) candidates;
-      testers = all-testers;
-      once = subst (IsDistinct is_same) (sym (mapped-twice (λ (pair : IdPair). pair.unit) (pair_of requests) candidates)) once;
+      units = map (unit_in requests functional) candidates;
+      found = all-found;
+      once = subst (IsDistinct is_same) (sym (mapped-twice (λ (found : FoundUnit). found.pair.unit) (unit_in requests functional) candidates)) once;
       every = every-unit;
       each = subst (λ l. IsPermutation l lines) (is ∙ lines-are) permuted;
       sorted = sorted;

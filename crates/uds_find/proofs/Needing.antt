@@ -5,15 +5,17 @@ use Rattle.std.proofs.lemmas.Bool.{and_parts, eqb-true, eqb-false, leb-true}
 use Rattle.std.proofs.lemmas.List.Sums.{count_by-le-length, sum_by-append, sum_by-cons, sum_by_push}
 use Rattle.std.specs.List.{cons_option, count_by}
 use Rattle.std.specs.Map.{lookup}
-use Rattle.std.specs.Prelude.{if◌then◌else◌, nat_le, ◌&&◌}
+use Rattle.std.specs.Option.{is_some}
+use Rattle.std.specs.Prelude.{if◌then◌else◌, nat_le, ◌&&◌, ◌||◌}
 use Rattle.can_log.specs.Frame.{FrameValue}
 use Rattle.can_log.specs.declared.frame.Id.{Id}
 use Rattle.can_log.specs.declared.frame.Id.TheVariants as id
-use Rattle.uds_find.specs.Asking.{asks, is_asking, request_count, HasAsking}
-use Rattle.uds_find.specs.Credit.{credit, credits, credits_after, credit_count, is_same, is_same_pair, HasCredit}
-use Rattle.uds_find.specs.Finding.{IsTally, counted}
-use Rattle.uds_find.specs.Laws.{AsksLast, CreditHasAsking, FirstCreditIsCredit, NeedHasAsking, TesterIsAnother}
-use Rattle.uds_find.specs.Tester.{IsFirst, IsTesterBeside, asking_partner, partner_of}
+use Rattle.uds_find.specs.Asking.{asks, is_asking, is_kept, request_count, HasKept}
+use Rattle.uds_find.specs.Functional.{is_functional_frame}
+use Rattle.uds_find.specs.Credit.{answers_from, credit, credits, credits_after, credit_count, is_same, is_same_pair, HasCredit}
+use Rattle.uds_find.specs.Finding.{IsTally}
+use Rattle.uds_find.specs.Laws.{AskingIsKept, AsksLast, CreditHasAsking, FirstCreditIsCredit, NeedHasKept, TesterIsAnother}
+use Rattle.uds_find.specs.Tester.{IsTesterBeside, asking_partner, partner_of}
 use Rattle.uds_find.specs.declared.pair.IdPair.{IdPair}
 use Rattle.uds_find.proofs.Asking.{credit_is_asked}
 use Rattle.uds_find.proofs.Counting.{credits-more}
@@ -69,11 +71,52 @@ credits-ask past (frame ∷ rest) some = by (credit past frame) refl some (λ la
 pub credit_has_asking : CreditHasAsking
 credit_has_asking frames some = credits-ask [] frames some
 
-pub need_has_asking : NeedHasAsking
-need_has_asking past frame (inl (asking, none)) =
-    omega (arith, sum_by_push (λ one. if asks one then 1 else 0) past frame, ap {B = ℕ} (λ b. if b then 1 else 0) asking)
-need_has_asking past frame (inr (pair, is)) =
-    omega (arith, sum_by_push (λ one. if asks one then 1 else 0) past frame, credited-asks past frame pair is)
+-- ---- the identifier of some frame is kept
+
+few-kept : (frames : List FrameValue) → count_by asks frames ≤ count_by is_kept frames
+few-kept [] = omega arith
+few-kept (frame ∷ rest) =
+    omega (
+      arith,
+      sum_by-cons (λ one. if asks one then 1 else 0) frame rest,
+      sum_by-cons (λ one. if is_kept one then 1 else 0) frame rest,
+      few-kept rest,
+      at-most (asks frame) (is_functional_frame frame),
+    )
+  where
+    at-most : (a b : Bool) → (if a then 1 else 0) ≤ (if a || b then 1 else 0)
+    at-most true b = omega arith
+    at-most false true = omega arith
+    at-most false false = omega arith
+
+pub asking_is_kept : AskingIsKept
+asking_is_kept frames some = omega (arith, some, few-kept frames)
+
+last-kept : (past : List FrameValue) (frame : FrameValue) → is_kept frame ≡ true → HasKept (past ++ frame ∷ [])
+last-kept past frame kept =
+    omega (arith, sum_by_push (λ one. if is_kept one then 1 else 0) past frame, ap {B = ℕ} (λ b. if b then 1 else 0) kept)
+
+credited-kept : (past : List FrameValue) (frame : FrameValue) (pair : IdPair) → credit past frame ≡ Some pair → HasKept (past ++ frame ∷ [])
+credited-kept past frame pair is =
+    omega (arith, sum_by_push (λ one. if is_kept one then 1 else 0) past frame, few-kept past, credited-asks past frame pair is)
+
+or-true : (b : Bool) → (b || true) ≡ true
+or-true true = refl
+or-true false = refl
+
+-- a credited answer is credited to some pair
+credited-some : (answers : Bool) (to : Option IdPair) → (answers && is_some to) ≡ true → (pair : IdPair) × (to ≡ Some pair)
+credited-some true (Some pair) is = (pair, refl)
+credited-some true None is = absurd (cc is)
+credited-some false to is = absurd (cc is)
+
+pub need_has_kept : NeedHasKept
+need_has_kept past frame (inl (asking, none)) = last-kept past frame (ap (λ b. b || is_functional_frame frame) asking)
+need_has_kept past frame (inr (inl (functional, none))) = last-kept past frame (ap (λ b. asks frame || b) functional ∙ or-true (asks frame))
+need_has_kept past frame (inr (inr (inl (pair, is, none)))) = credited-kept past frame pair is
+need_has_kept past frame (inr (inr (inr (service, is, none)))) =
+    let to = credited-some (answers_from service frame.id frame) (credit past frame) is in
+    credited-kept past frame to.0 to.1
 
 -- ---- a tester is another
 

@@ -1,5 +1,5 @@
 -- The orders of the types, that of `CreditLine` by hand and the others derived, are those of the definitions.
-use Rattle.std.proofs.Common.{◌≡◌, ℕ, Bool, true, false, List, refl, sym, ap, subst, rules, is_eq, Ordering}
+use Rattle.std.proofs.Common.{◌≡◌, Bool, true, false, List, refl, sym, ap, subst, rules, is_eq, Ordering}
 use Rattle.std.proofs.lemmas.Bool.{and_from, and_parts, eqb-true}
 use Rattle.std.proofs.lemmas.Cmp.{back_total, nat_cmp_total, nat_list_cmp_total, on_total, then_total}
 use Rattle.std.proofs.lemmas.List.MinMax.{ranks_by}
@@ -13,7 +13,7 @@ use Rattle.can_log.specs.declared.frame.Id.{Id}
 use Rattle.can_log.specs.declared.frame.Id.TheVariants as id
 use Rattle.uds_find.specs.Credit.{is_same, is_same_pair}
 use Rattle.uds_find.specs.Finding.{is_same_unit_service, line_order}
-use Rattle.uds_find.specs.Tester.{candidate_order, is_functional_identifier}
+use Rattle.uds_find.specs.Tester.{candidate_order}
 use Rattle.uds_find.specs.declared.candidate.Candidate.{Candidate}
 use Rattle.uds_find.specs.contracts.pair.CreditLineOrd.TheImpl as line_ord
 use Rattle.uds_find.specs.contracts.pair.IdPairOrd.TheImpl as pair_ord
@@ -130,6 +130,6 @@ pairs-equal = record {
 -- one candidate stands before another by an order
 pub candidates-ranked : IsStrictWeakOrder (λ (one other : Candidate). is_lt (candidate_order one other))
 candidates-ranked = ranks_by
-    (then_total (on_total (λ (c : Candidate). is_functional_identifier c.tester) bool_cmp_total)
+    (then_total (on_total (λ (c : Candidate). c.functional) bool_cmp_total)
     (then_total (back_total (on_total (λ (c : Candidate). c.credits) nat_cmp_total))
     (on_total (λ (c : Candidate). identifier_text c.tester) nat_list_cmp_total))) (λ (c : Candidate). c)

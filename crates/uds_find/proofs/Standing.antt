@@ -1,62 +1,31 @@
 -- What a finder keeps after one more frame.
-use Rattle.std.proofs.Common.{◌≡◌, ℕ, ◌+◌, ◌^◌, ◌<◌, ◌≤◌, ◌==◌, Bool, true, false, List, [], ◌∷◌, ◌++◌, Option, Some, None, length, refl, sym, ◌∙◌}
-use Rattle.std.proofs.Common.{ap, subst, arith}
+use Rattle.std.proofs.Common.{◌≡◌, ℕ, ◌+◌, ◌^◌, ◌<◌, ◌==◌, Bool, true, false, List, [], ◌∷◌, ◌++◌, Option, Some, None, length, refl, sym, ◌∙◌}
+use Rattle.std.proofs.Common.{ap, subst, arith, inl, inr, ◌⊎◌}
 use Rattle.std.proofs.lemmas.Bool.{eqb-true, eqb-false}
-use Rattle.std.proofs.lemmas.List.{get_or-replicate, length-replicate, length-set, get_or-set_same, get_or-set_other}
+use Rattle.std.proofs.lemmas.List.{length-set, get_or-set_same, get_or-set_other}
 use Rattle.std.proofs.lemmas.List.Sums.{count_by-le-length}
-use Rattle.std.specs.BTreeMap.{BTreeMap, IsOrdered}
 use Rattle.std.specs.List.{count_by}
-use Rattle.std.specs.Map.{lookup}
-use Rattle.std.specs.Ordering.{is_eq}
-use Rattle.std.specs.declared.cmp.Ordering.{Ordering}
-use Rattle.std.specs.Prelude.{slice_index, slice_index_or, slice_set, if◌then◌else◌, ◌||◌}
+use Rattle.std.specs.Option.{is_some, unwrap_or}
+use Rattle.std.specs.Prelude.{slice_index, slice_index_or, slice_set, if◌then◌else◌, ◌||◌, ◌&&◌}
 use Rattle.can_log.specs.Frame.{FrameValue}
 use Rattle.can_log.specs.declared.frame.Id.{Id}
 use Rattle.uds_find.specs.Asking.{asks, is_asking, request_count}
-use Rattle.uds_find.specs.Credit.{asks_for, credit, credit_of_mention, credit_count, credited_to, credits_after, has_answered, is_asking_of, is_same}
-use Rattle.uds_find.specs.Credit.{is_same_pair, last_asker}
-use Rattle.uds_find.specs.Finding.{FinderValue, IsTally, StandsAfter, TellsAnswered, TellsAskers, TellsAskings, counted, number_at, one_more}
-use Rattle.uds_find.specs.proving.Steps.{IsAskedMore, IsCreditedMore, IsCreditedTo}
+use Rattle.uds_find.specs.Credit.{answers_from, asks_for, credit, credit_of_mention, credit_count, credited_to, has_answered}
+use Rattle.uds_find.specs.Credit.{is_answer_of, is_asking_of, is_credited_answer, is_same, is_same_pair, last_asker, IsFirstAnswer}
+use Rattle.uds_find.specs.Credit.{IsFirstCredit}
+use Rattle.uds_find.specs.Finding.{FinderValue, HasCounted, HasPlaces, IsTally, TellsAnswered, TellsAskers, TellsAskings}
+use Rattle.uds_find.specs.Finding.{number_at, one_more}
+use Rattle.uds_find.specs.proving.Steps.{IsAskedMore, IsCreditedMore, IsCreditedTo, IsNewIn}
 use Rattle.uds_find.specs.Mention.{mention_of}
 use Rattle.uds_find.specs.declared.mention.Mention.TheVariants.{Asks, Answers}
 use Rattle.uds_find.specs.declared.pair.IdPair.{IdPair}
-use Rattle.uds_find.specs.declared.pair.UnitService.{UnitService}
 use Rattle.uds_find.proofs.Answered.{answered-after-asking, answered-credited, answered-silent, answered-uncredited}
 use Rattle.uds_find.proofs.Askers.{asker-asked, asker-kept, askings-asked, askings-kept}
-use Rattle.uds_find.proofs.Counting.{count-more, count-silent, few-counted, few-requests, requests-more, requests-silent}
-use Rattle.uds_find.proofs.Orders.{id_order, pair_order, same-id, same-pair}
-use Rattle.uds_find.proofs.Tallies.{keys-once, tally-same}
-use lib.ListN.{replicate}
-
--- ---- no frame
-
-pub nobody-asked : TellsAskers [] (replicate 256 None)
-unfolding last_asker
-nobody-asked = record { places = length-replicate {A = Option Id} 256 None; each = λ service below. get_or-replicate 256 service None None below }
-
-pub nothing-asked-for : TellsAskings [] (replicate 256 0)
-nothing-asked-for = record { places = length-replicate {A = ℕ} 256 0; each = λ service below. get_or-replicate 256 service 0 0 below }
-
-pub nothing-answered : (table : List (UnitService × ℕ)) → table ≡ [] → TellsAnswered [] (number_at table)
-unfolding last_asker
-nothing-answered table empty = record {
-  earlier = λ key. omega (arith, ap (λ t. number_at t key) empty);
-  each = λ key tester last apart. absurd (cc last);
-}
-
-pub no-credits : (pairs : BTreeMap IdPair ℕ) → pairs.entries ≡ [] → IsOrdered pair_order pairs → IsTally is_same_pair (credit_count []) pairs.entries
-unfolding credit_count credits_after
-no-credits pairs empty ordered = record {
-  once = keys-once pair_order is_same_pair same-pair _ ordered;
-  counts = λ pair. ap (lookup (is_same_pair pair)) empty;
-}
-
-pub no-requests : (names : BTreeMap Id ℕ) → names.entries ≡ [] → IsOrdered id_order names → IsTally is_same (request_count []) names.entries
-unfolding request_count
-no-requests names empty ordered = record {
-  once = keys-once id_order is_same same-id _ ordered;
-  counts = λ name. ap (lookup (is_same name)) empty;
-}
+use Rattle.uds_find.proofs.Counting.{count-more, count-silent, few-counted, few-requests}
+use Rattle.uds_find.proofs.Counting.{requests-more, requests-silent}
+use Rattle.uds_find.proofs.Orders.{identifier-itself}
+use Rattle.uds_find.proofs.Tallies.{from-counted, tally-same}
+use Rattle.uds_find.proofs.Placing.{places-kept, places-more, uncredited}
 
 module _ (frames : List FrameValue) (frame : FrameValue) where
   -- ---- a frame that doesn't ask
@@ -87,11 +56,12 @@ module _ (frames : List FrameValue) (frame : FrameValue) where
       tally-same is_same (request_count frames) (request_count (frames ++ frame ∷ [])) table (λ name. requests-silent name frames frame silent) tally
 
   -- a frame that says nothing
-  pub stands-silent : (finder : FinderValue) → mention_of frame ≡ None → StandsAfter frames finder → StandsAfter (frames ++ frame ∷ []) finder
+  pub stands-silent : (finder : FinderValue) → mention_of frame ≡ None → HasCounted frames finder → HasCounted (frames ++ frame ∷ []) finder
   stands-silent finder none stands = record {
     askers = askers-kept finder.askers (λ service. ap (is_asking_of service) none) stands.askers;
     askings = askings-still finder.askings (λ service. ap (is_asking_of service) none) stands.askings;
     answered = answered-silent frames frame (number_at finder.answered) stands.answered none;
+    places = places-kept frames frame finder.answered (uncredited frames frame (ap (λ said. credit_of_mention frames said frame.id) none)) stands.places;
     credits = credits-kept finder.credits (ap (λ said. credit_of_mention frames said frame.id) none) stands.credits;
     requests = requests-kept finder.requests (ap is_asking none) stands.requests;
   }
@@ -134,8 +104,8 @@ module _ (frames : List FrameValue) (frame : FrameValue) where
             get_or-set_other askings service other (slice_index askings service + 1) 0 (λ e. eqb-false service other apart (sym e))
             ∙ tells.each other below ∙ sym (askings-kept other frames frame (ap (is_asking_of other) said ∙ apart))
 
-    pub stands-asked : (old new : FinderValue) → length frames < 2 ^ 62 → IsAskedMore service frame.id old new → StandsAfter frames old
-        → StandsAfter (frames ++ frame ∷ []) new
+    pub stands-asked : (old new : FinderValue) → length frames < 2 ^ 62 → IsAskedMore service frame.id old new → HasCounted frames old
+        → HasCounted (frames ++ frame ∷ []) new
     stands-asked old new few step stands = record {
       askers = subst (TellsAskers (frames ++ frame ∷ [])) (sym step.askers) (askers-asked old.askers stands.askers);
       askings =
@@ -145,6 +115,9 @@ module _ (frames : List FrameValue) (frame : FrameValue) where
       answered =
           subst (λ t. TellsAnswered (frames ++ frame ∷ []) (number_at t)) (sym step.answered)
           (answered-after-asking frames frame (number_at old.answered) stands.answered service said);
+      places =
+          subst (HasPlaces (frames ++ frame ∷ [])) (sym step.answered)
+          (places-kept frames frame old.answered (uncredited frames frame (ap (λ m. credit_of_mention frames m frame.id) said)) stands.places);
       credits =
           subst (IsTally is_same_pair (credit_count (frames ++ frame ∷ []))) (sym step.credits)
           (credits-kept old.credits (ap (λ m. credit_of_mention frames m frame.id) said) stands.credits);
@@ -158,7 +131,7 @@ module _ (frames : List FrameValue) (frame : FrameValue) where
 
   module _ (service : ℕ) (said : mention_of frame ≡ Some (Answers service)) (small : service < 256) where
     -- the pair that it is credited to, by what is kept
-    pub credit-kept : (finder : FinderValue) → StandsAfter frames finder
+    pub credit-kept : (finder : FinderValue) → HasCounted frames finder
         → credited_to (slice_index_or finder.askers service None) frame.id
         (number_at finder.answered (record { unit = frame.id; service = service }) == slice_index finder.askings service)
         ≡ credit frames frame
@@ -187,19 +160,47 @@ module _ (frames : List FrameValue) (frame : FrameValue) where
         by None last = refl
         by (Some tester) last = for tester (is_same tester frame.id) refl last
 
-    none-stands : (finder : FinderValue) → credit frames frame ≡ None → StandsAfter frames finder → StandsAfter (frames ++ frame ∷ []) finder
+    -- what is new of an answer that is credited: its pair, or its unit and service
+    pub first-of-answer : (finder : FinderValue) (pair : IdPair) → HasCounted frames finder
+        → credited_to (slice_index_or finder.askers service None) frame.id
+        (number_at finder.answered (record { unit = frame.id; service = service }) == slice_index finder.askings service) ≡ Some pair
+        → IsNewIn finder.answered finder.credits (record { unit = frame.id; service = service }) pair
+        → IsFirstCredit frames frame ⊎ IsFirstAnswer frames frame
+    first-of-answer finder pair stands to is_new = by is_new
+      where
+        some : credit frames frame ≡ Some pair
+        some = sym (credit-kept finder stands) ∙ to
+
+        is-credited : is_credited_answer service frame.id frames frame ≡ true
+        is-credited =
+            ap (λ o. answers_from service frame.id frame && is_some o) some
+            ∙ ap (λ m. (is_answer_of service m && is_same frame.id frame.id) && true) said
+            ∙ ap (λ b. (b && is_same frame.id frame.id) && true) (same-service service)
+            ∙ ap (λ b. b && true) (identifier-itself frame.id)
+          where
+            same-service : (n : ℕ) → (n == n) ≡ true
+            same-service n = grind arith
+
+        by : IsNewIn finder.answered finder.credits (record { unit = frame.id; service = service }) pair
+            → IsFirstCredit frames frame ⊎ IsFirstAnswer frames frame
+        by (inl nowhere) = inr (service, is-credited, sym (stands.places (record { unit = frame.id; service = service })) ∙ nowhere)
+        by (inr none) =
+            inl (pair, some, sym (ap (λ o. unwrap_or o 0) (stands.credits.counts pair) ∙ from-counted (credit_count frames pair)) ∙ none)
+
+    none-stands : (finder : FinderValue) → credit frames frame ≡ None → HasCounted frames finder → HasCounted (frames ++ frame ∷ []) finder
     none-stands finder none stands = record {
       askers = askers-kept finder.askers (λ other. ap (is_asking_of other) said) stands.askers;
       askings = askings-still finder.askings (λ other. ap (is_asking_of other) said) stands.askings;
       answered =
           answered-uncredited frames frame (number_at finder.answered) stands.answered service said
           (sym (ap (λ m. credit_of_mention frames m frame.id) said) ∙ none);
+      places = places-kept frames frame finder.answered (uncredited frames frame none) stands.places;
       credits = credits-kept finder.credits none stands.credits;
       requests = requests-kept finder.requests (ap is_asking said) stands.requests;
     }
 
     some-stands : (pair : IdPair) (old new : FinderValue) → length frames < 2 ^ 62 → credit frames frame ≡ Some pair
-        → IsCreditedMore service frame.id pair old new → StandsAfter frames old → StandsAfter (frames ++ frame ∷ []) new
+        → IsCreditedMore service frame.id pair old new → HasCounted frames old → HasCounted (frames ++ frame ∷ []) new
     some-stands pair old new few some step stands = record {
       askers =
           subst (TellsAskers (frames ++ frame ∷ [])) (sym step.askers)
@@ -210,6 +211,7 @@ module _ (frames : List FrameValue) (frame : FrameValue) where
       answered =
           answered-credited frames frame (number_at old.answered) stands.answered service said (number_at new.answered)
           (slice_index old.askings service) (stands.askings.each service small) step.answered;
+      places = places-more frames frame service said pair old.answered new.answered some step.places stands.places;
       credits =
           tally-same is_same_pair (one_more is_same_pair pair (credit_count frames)) (credit_count (frames ++ frame ∷ [])) new.credits
           (λ other. count-more other frames frame pair some)
@@ -222,10 +224,10 @@ module _ (frames : List FrameValue) (frame : FrameValue) where
     pub stands-answered : (old new : FinderValue) → length frames < 2 ^ 62
         → IsCreditedTo service frame.id (credited_to (slice_index_or old.askers service None) frame.id
         (number_at old.answered (record { unit = frame.id; service = service }) == slice_index old.askings service)) old new
-        → StandsAfter frames old → StandsAfter (frames ++ frame ∷ []) new
+        → HasCounted frames old → HasCounted (frames ++ frame ∷ []) new
     stands-answered old new few step stands = by (credit frames frame) refl (subst (λ to. IsCreditedTo service frame.id to old new)
         (credit-kept old stands) step)
       where
-        by : (to : Option IdPair) → credit frames frame ≡ to → IsCreditedTo service frame.id to old new → StandsAfter (frames ++ frame ∷ []) new
-        by None none is = subst (StandsAfter (frames ++ frame ∷ [])) (sym is) (none-stands old none stands)
+        by : (to : Option IdPair) → credit frames frame ≡ to → IsCreditedTo service frame.id to old new → HasCounted (frames ++ frame ∷ []) new
+        by None none is = subst (HasCounted (frames ++ frame ∷ [])) (sym is) (none-stands old none stands)
         by (Some pair) some more = some-stands pair old new few some more stands

@@ -1,6 +1,7 @@
 -- Which identifier an answer is credited to: the one that last asked for the service, once for that asking.
-use Rattle.std.specs.Prelude.{◌≡◌, ℕ, ◌==◌, ◌<◌, Bool, false, ◌&&◌, ◌||◌, List, [], ◌∷◌, ◌++◌, length, Option, Some, None, if◌then◌else◌}
+use Rattle.std.specs.Prelude.{◌≡◌, ℕ, ◌==◌, ◌<◌, Bool, true, false, ◌&&◌, ◌||◌, List, [], ◌∷◌, ◌++◌, length, Option, Some, None, if◌then◌else◌}
 use Rattle.std.specs.List.{after_last, cons_option, count_by, filter, last_or, list_any}
+use Rattle.std.specs.Option.{is_some}
 use Rattle.can_log.specs.Frame.{FrameValue}
 use Rattle.can_log.specs.declared.frame.Id.{Id}
 use Rattle.can_log.specs.declared.frame.Id.TheVariants as id
@@ -88,3 +89,21 @@ HasCredit frames = 0 < length (credits frames)
 -- after these frames this one is the first that is credited to its pair
 abbrev pub IsFirstCredit : List FrameValue → FrameValue → Type 0
 IsFirstCredit past frame = (pair : IdPair) × (credit past frame ≡ Some pair) × (credit_count past pair ≡ 0)
+
+-- whether a frame is a credited answer of the service by the unit, after these frames
+abbrev pub is_credited_answer : ℕ → Id → List FrameValue → FrameValue → Bool
+is_credited_answer service unit past frame = answers_from service unit frame && is_some (credit past frame)
+
+-- whether one of these frames is, where the frames `past` came before them
+unfoldable pub has_credited_after : ℕ → Id → List FrameValue → List FrameValue → Bool
+has_credited_after service unit past [] = false
+has_credited_after service unit past (frame ∷ rest) =
+    is_credited_answer service unit past frame || has_credited_after service unit (past ++ frame ∷ []) rest
+
+-- whether some answer of the service by the unit is credited
+abbrev pub has_credited : ℕ → Id → List FrameValue → Bool
+has_credited service unit frames = has_credited_after service unit [] frames
+
+-- after these frames this one is the first credited answer of its service by its unit
+abbrev pub IsFirstAnswer : List FrameValue → FrameValue → Type 0
+IsFirstAnswer past frame = (service : ℕ) × (is_credited_answer service frame.id past frame ≡ true) × (has_credited service frame.id past ≡ false)

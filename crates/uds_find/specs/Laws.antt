@@ -1,12 +1,13 @@
 -- What the laws say of what frames say, and of credits.
-use Rattle.std.specs.Prelude.{◌≡◌, ℕ, false, List, [], ◌∷◌, ◌++◌, Some, None, Ok}
+use Rattle.std.specs.Prelude.{◌≡◌, ℕ, true, false, List, [], ◌∷◌, ◌++◌, Some, None, Ok}
 use Rattle.std.specs.List.{list_any}
 use Rattle.can_log.specs.Frame.{FrameValue}
 use Rattle.can_log.specs.declared.frame.Id.{Id}
 use Rattle.isotp_pdu.specs.Layout.{single}
 use Rattle.isotp_pdu.specs.Reading.{layout_of}
-use Rattle.uds_find.specs.Asking.{HasAsking, NeedsMemory}
+use Rattle.uds_find.specs.Asking.{HasAsking, HasKept, NeedsMemory}
 use Rattle.uds_find.specs.Credit.{answers_from, asks_for, credit, is_same, HasCredit, IsFirstCredit}
+use Rattle.uds_find.specs.Functional.{is_functional, is_functional_identifier}
 use Rattle.uds_find.specs.Mention.{mention_of}
 use Rattle.uds_find.specs.Tester.{IsUnitWithTester}
 use Rattle.uds_find.specs.declared.mention.Mention.TheVariants.{Asks, Answers}
@@ -55,9 +56,17 @@ SecondAnswerHasNoCredit = (past since : List FrameValue) (answer again : FrameVa
 abbrev pub CreditHasAsking : Type 0
 CreditHasAsking = (frames : List FrameValue) → HasCredit frames → HasAsking frames
 
--- what is kept grows only where some frame asks
-abbrev pub NeedHasAsking : Type 0
-NeedHasAsking = (past : List FrameValue) (frame : FrameValue) → NeedsMemory past frame → HasAsking (past ++ frame ∷ [])
+-- what is kept grows only where the identifier of some frame is kept
+abbrev pub NeedHasKept : Type 0
+NeedHasKept = (past : List FrameValue) (frame : FrameValue) → NeedsMemory past frame → HasKept (past ++ frame ∷ [])
+
+-- where a frame asks, its identifier is kept
+abbrev pub AskingIsKept : Type 0
+AskingIsKept = (frames : List FrameValue) → HasAsking frames → HasKept frames
+
+-- whatever is functional is an identifier for functional requests
+abbrev pub FunctionalIsIdentifier : Type 0
+FunctionalIsIdentifier = (frames : List FrameValue) (one : Id) → is_functional frames one ≡ true → is_functional_identifier one ≡ true
 
 -- no unit is its own tester
 abbrev pub TesterIsAnother : Type 0

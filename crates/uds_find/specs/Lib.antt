@@ -1,5 +1,6 @@
 pub mod Mention
 pub mod Credit
+pub mod Functional
 pub mod Asking
 pub mod Tester
 pub mod Finding

@@ -1,7 +1,6 @@
 -- Which identifier is the tester of a unit: its partner, where that asks, and else the first of those with credits.
-use Rattle.std.specs.Prelude.{◌≡◌, ℕ, ◌+◌, ◌-◌, ◌*◌, ◌/◌, ◌%◌, ◌==◌, ◌<◌, nat_le, Bool, false, ◌&&◌, List, Option, Some, None}
+use Rattle.std.specs.Prelude.{◌≡◌, ◌+◌, ◌-◌, ◌*◌, ◌/◌, ◌%◌, ◌==◌, ◌<◌, nat_le, false, ◌&&◌, List, Option, Some, None}
 use Rattle.std.specs.Prelude.{if◌then◌else◌}
-use Rattle.std.specs.Cmp.Lexicographic.{slice_cmp}
 use Rattle.std.specs.Ordering.{bool_cmp, is_lt, nat_cmp, ordering_then}
 use Rattle.std.specs.declared.cmp.Ordering.{Ordering}
 use Rattle.can_log.specs.Canonical.{identifier_text}
@@ -10,14 +9,9 @@ use Rattle.can_log.specs.declared.frame.Id.{Id}
 use Rattle.can_log.specs.declared.frame.Id.TheVariants as id
 use Rattle.uds_find.specs.Asking.{request_count}
 use Rattle.uds_find.specs.Credit.{credit_count}
+use Rattle.uds_find.specs.Functional.{is_functional, text_order}
 use Rattle.uds_find.specs.declared.candidate.Candidate.{Candidate}
 use Rattle.uds_find.specs.declared.pair.IdPair.{IdPair}
-
--- an identifier of functional requests: 7DF (ISO 15765-4), and 18DB with two addresses behind (normal fixed addressing,
--- ISO 15765-2:2016, 10.3.3)
-abbrev pub is_functional_identifier : Id → Bool
-is_functional_identifier (id.Std number) = number == 0x7DF
-is_functional_identifier (id.Ext number) = number / 65536 == 0x18DB
 
 -- The partner of a unit: 7E0 + k of 7E8 + k, for k up to 7 (ISO 15765-4), and 18DAyyxx of 18DAxxyy (normal fixed
 -- addressing, ISO 15765-2:2016, 10.3.3). Where xx is yy there is none: nobody is its own partner.
@@ -34,20 +28,20 @@ abbrev pub asking_partner : List FrameValue → Option Id → Option Id
 asking_partner frames None = None
 asking_partner frames (Some partner) = if request_count frames partner == 0 then None else Some partner
 
--- the order of texts: the first byte that differs decides, and a text stands before what only goes on after it
-abbrev pub text_order : List ℕ → List ℕ → Ordering
-text_order = slice_cmp nat_cmp
-
 -- the order of those who have credits of one unit: one that isn't functional before one that is, then the most credits
 -- first, then by the text
 abbrev pub candidate_order : Candidate → Candidate → Ordering
 candidate_order one other =
-    ordering_then (bool_cmp (is_functional_identifier one.tester) (is_functional_identifier other.tester))
+    ordering_then (bool_cmp one.functional other.functional)
     (ordering_then (nat_cmp other.credits one.credits) (text_order (identifier_text one.tester) (identifier_text other.tester)))
 
--- a tester, with its credits of the unit
+-- a tester, with its credits of the unit, and whether it is functional
 abbrev pub candidate : List FrameValue → Id → Id → Candidate
-candidate frames unit tester = record { tester = tester; credits = credit_count frames (record { tester = tester; unit = unit }) }
+candidate frames unit tester = record {
+  tester = tester;
+  credits = credit_count frames (record { tester = tester; unit = unit });
+  functional = is_functional frames tester;
+}
 
 -- The tester has credits of the unit, and no other one with some stands before it.
 pub record IsFirst (frames : List FrameValue) (pair : IdPair) : Type 0 where

@@ -1,2 +1,3 @@
 -- Devices of proof, apart from the definitions that the promises are made of.
 pub mod Steps
+pub mod Ties

@@ -8,11 +8,12 @@ ghost use Rattle.uds_find.specs.Tester as Spec;
 
 use can_log::{Id, identifier_text};
 
-/// An identifier that has credits of a unit, and how many.
+/// An identifier that has credits of a unit, how many, and whether it is functional.
 #[derive(Clone, Copy, Debug)]
 pub(crate) struct Candidate {
     pub tester: Id,
     pub credits: u64,
+    pub functional: bool,
 }
 
 /// The first of two candidates, where there is one already.
@@ -31,21 +32,11 @@ fn is_before(one: Candidate, other: Candidate) -> bool
 {
     let one_text = identifier_text(one.tester);
     let other_text = identifier_text(other.tester);
-    is_functional_identifier(one.tester)
-        .cmp(&is_functional_identifier(other.tester))
+    one.functional
+        .cmp(&other.functional)
         .then(other.credits.cmp(&one.credits))
         .then(one_text.cmp(&other_text))
         .is_lt()
-}
-
-/// Whether it is an identifier of functional requests.
-fn is_functional_identifier(id: Id) -> bool
-    ensures { result ≡ Spec.is_functional_identifier id }
-{
-    match id {
-        Id::Std(number) => number == 0x7DF,
-        Id::Ext(number) => number / 65536 == 0x18DB,
-    }
 }
 
 /// The partner of a unit's identifier, if it has one.

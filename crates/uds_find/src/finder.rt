@@ -3,13 +3,14 @@
 ghost use Rattle.std.specs.Prelude.{◌≡◌};
 ghost use Rattle.uds_find.specs.Credit as Spec;
 
+use crate::functional::{keep_functional, take_back};
 use crate::lines::{first_candidates, lines_of};
 use crate::mention::{Mention, mention_of};
 use crate::pair::{CreditLine, IdPair, UnitService};
 use crate::tables::{count_request, credit_once, last_answered};
 use can_log::{Frame, Id};
 use std::alloc::{AllocError, Global};
-use std::collections::BTreeMap;
+use std::collections::{BTreeMap, BTreeSet};
 use std::marker::Model;
 
 /// What is kept of the frames of a log.
@@ -26,6 +27,8 @@ pub struct Finder {
     credits: BTreeMap<IdPair, u64>,
     /// How many requests each identifier sent.
     requests: BTreeMap<Id, u64>,
+    /// The functional identifiers.
+    functional: BTreeSet<Id>,
 }
 
 impl Model for Finder {
@@ -39,16 +42,17 @@ impl Model for Finder {
       answered = f.answered.entries;
       credits = f.credits.entries;
       requests = f.requests.entries;
+      functional = f.functional.keys;
     } };
 }
 
 impl Finder {
-    ghost use Rattle.std.specs.Prelude.{◌≡◌, ◌^◌, ◌<◌, [], ◌∷◌, ◌++◌, List, length, OnOk, OnErr, IfOk, Some};
+    ghost use Rattle.std.specs.Prelude.{◌≡◌, ◌^◌, ◌<◌, ◌⊎◌, [], ◌∷◌, ◌++◌, List, length, OnOk, OnErr, IfOk, Some};
     ghost use Rattle.can_log.specs.Frame.{FrameValue};
-    ghost use Rattle.uds_find.specs.Asking.{NeedsMemory, request_count};
-    ghost use Rattle.uds_find.specs.Credit.{HasCredit};
-    ghost use Rattle.uds_find.specs.Finding.{AreCreditLines, StandsAfter};
-    ghost use Rattle.uds_find.specs.proving.Steps.{IsAskedMore, IsCreditedTo, credited_by};
+    ghost use Rattle.uds_find.specs.Asking.{IsFirstAsking, NeedsMemory, request_count};
+    ghost use Rattle.uds_find.specs.Credit.{HasCredit, IsFirstAnswer, IsFirstCredit};
+    ghost use Rattle.uds_find.specs.Finding.{AreCreditLines, HasCounted, StandsAfter};
+    ghost use Rattle.uds_find.specs.proving.Steps.{IsAskedMore, IsCreditedTo, IsNewIn, credited_by};
     ghost use Rattle.uds_find.specs.declared.pair.IdPair.{IdPair};
 
     /// Before the first frame.
@@ -61,6 +65,7 @@ impl Finder {
             answered: BTreeMap::new(alloc),
             credits: BTreeMap::new(alloc),
             requests: BTreeMap::new(alloc),
+            functional: BTreeSet::new(alloc),
         }
     }
 
@@ -71,6 +76,23 @@ impl Finder {
         ensures err { OnErr result (self.new ≡ self.old) }
         ensures needs { OnErr result ((frames : List FrameValue)
             → StandsAfter frames self.old → NeedsMemory frames frame.now) }
+    {
+        let is_new = keep_functional(&mut self.functional, frame)?;
+        if let Err(refused) = self.count(frame) {
+            take_back(&mut self.functional, frame.id(), is_new);
+            return Err(refused);
+        }
+        Ok(())
+    }
+
+    /// Counts what one more frame says.
+    fn count(&mut self, frame: &Frame) -> Result<(), AllocError>
+        ensures ok { OnOk result ((frames : List FrameValue) → length frames < 2 ^ 62
+            → HasCounted frames self.old → HasCounted (frames ++ frame.now ∷ []) self.new) }
+        ensures err { OnErr result (self.new ≡ self.old) }
+        ensures needs { OnErr result ((frames : List FrameValue) → HasCounted frames self.old
+            → IsFirstAsking frames frame.now ⊎ IsFirstCredit frames frame.now ⊎ IsFirstAnswer frames frame.now) }
+        ensures functional { self.new.functional ≡ self.old.functional }
     {
         match mention_of(frame) {
             None => Ok(()),
@@ -85,8 +107,14 @@ impl Finder {
             → StandsAfter frames self → AreCreditLines frames lines.items) }
         ensures needs { OnErr result ((frames : List FrameValue) → StandsAfter frames self → HasCredit frames) }
     {
-        let candidates = first_candidates(alloc, &self.credits)?;
-        let mut lines = lines_of(alloc, candidates, &self.credits, &self.requests)?;
+        let Finder {
+            credits,
+            requests,
+            functional,
+            ..
+        } = self;
+        let candidates = first_candidates(alloc, &credits, &functional)?;
+        let mut lines = lines_of(alloc, candidates, &credits, &requests, &functional)?;
         lines.sort_unstable();
         Ok(lines)
     }
@@ -96,7 +124,8 @@ impl Finder {
         ensures ok { OnOk result (IsAskedMore service asker self.old self.new) }
         ensures err { OnErr result (self.new ≡ self.old) }
         ensures needs { OnErr result ((frames : List FrameValue)
-            → StandsAfter frames self.old → request_count frames asker ≡ 0) }
+            → HasCounted frames self.old → request_count frames asker ≡ 0) }
+        ensures functional { self.new.functional ≡ self.old.functional }
     {
         count_request(&mut self.requests, asker)?;
         let place = service as usize;
@@ -109,7 +138,9 @@ impl Finder {
     fn credit(&mut self, service: u8, unit: Id) -> Result<(), AllocError>
         ensures ok { OnOk result (IsCreditedTo service unit (credited_by self.old service unit) self.old self.new) }
         ensures err { OnErr result (self.new ≡ self.old) }
-        ensures needs { OnErr result ((pair : IdPair) × (credited_by self.old service unit ≡ Some pair)) }
+        ensures needs { OnErr result ((pair : IdPair) × (credited_by self.old service unit ≡ Some pair)
+            × IsNewIn self.old.answered self.old.credits (record { unit = unit; service = service }) pair) }
+        ensures functional { self.new.functional ≡ self.old.functional }
     {
         let asking = self.askings[service as usize];
         let answer = UnitService { unit, service };

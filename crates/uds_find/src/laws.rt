@@ -1,7 +1,7 @@
 //! What holds of what frames say and of credits, whatever counts them. Each law is its contract; a call does nothing.
 
-ghost use Rattle.uds_find.specs.Laws.{CreditHasAsking, CreditIsAsked, FirstCreditIsCredit, KeepAliveSaysNothing};
-ghost use Rattle.uds_find.specs.Laws.{NeedHasAsking, PendingReplySaysNothing, SecondAnswerHasNoCredit, TesterIsAnother};
+ghost use Rattle.uds_find.specs.Laws.{AskingIsKept, CreditHasAsking, CreditIsAsked, FirstCreditIsCredit, FunctionalIsIdentifier};
+ghost use Rattle.uds_find.specs.Laws.{KeepAliveSaysNothing, NeedHasKept, PendingReplySaysNothing, SecondAnswerHasNoCredit, TesterIsAnother};
 
 /// A keep-alive asks for nothing.
 pub fn keep_alive_says_nothing()
@@ -34,9 +34,19 @@ pub fn credit_has_asking()
     ensures { CreditHasAsking }
 {}
 
-/// What is kept grows only where some frame asks.
-pub fn need_has_asking()
-    ensures { NeedHasAsking }
+/// What is kept grows only where the identifier of some frame is kept.
+pub fn need_has_kept()
+    ensures { NeedHasKept }
+{}
+
+/// Where a frame asks, its identifier is kept.
+pub fn asking_is_kept()
+    ensures { AskingIsKept }
+{}
+
+/// Whatever is functional is an identifier for functional requests.
+pub fn functional_is_identifier()
+    ensures { FunctionalIsIdentifier }
 {}
 
 /// No unit is its own tester.

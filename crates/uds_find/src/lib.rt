@@ -2,7 +2,8 @@
 //!
 //! A frame that begins a message says of a service that it asks for it or that it answers it ([`mention_of`]), whatever
 //! its identifier. A [`Finder`] takes frames one by one, and credits each answer to the identifier that last asked for
-//! its service, once for each asking; its lines are the identifiers with a credit, each with its tester.
+//! its service, once for each asking; its lines are the identifiers with a credit, each with its tester, and with a
+//! functional identifier beside them.
 //!
 //! ```text
 //! 7E0#0322F190          asks for service 22
@@ -10,12 +11,13 @@
 //! 7E0#300000            says nothing
 //! 7E8#2131413345304645  says nothing
 //!
-//! CreditLine { credits: 1, requests: 1, tester: "7E0", unit: "7E8" }
+//! CreditLine { credits: 1, requests: 1, tester: "7E0", unit: "7E8", functional: None }
 //! ```
 #![tactic(auto)]
 
 mod candidate;
 mod finder;
+mod functional;
 pub mod laws;
 mod lines;
 mod mention;

@@ -3,8 +3,10 @@
 ghost use Rattle.std.specs.Cmp.{partial_order_from_own_ties};
 ghost use Rattle.std.specs.Cmp.Lexicographic.{slice_cmp};
 ghost use Rattle.std.specs.Cmp.Rules.{comparing};
+ghost use Rattle.std.specs.Option.{option_cmp};
 ghost use Rattle.std.specs.Ordering.{as_partial_cmp, flip_args, nat_cmp, on, then_cmp};
 ghost use Rattle.std.proofs.Common.{rules};
+ghost use Rattle.uds_find.specs.proving.Ties.{line_tie};
 
 use arrayvec::ArrayVec;
 use can_log::Id;
@@ -25,14 +27,15 @@ pub(crate) struct UnitService {
 }
 
 /// A unit and its tester by the texts of their identifiers, with how many of the unit's answers are credited to it, and
-/// how many requests the tester sent. Lines are ordered by the most credits, and then by these texts, as a reader of the
-/// list orders them.
+/// how many requests the tester sent. A functional identifier stands beside them, where the log has one that is neither.
+/// Lines are ordered by the most credits, and then by the first two texts, as a reader of the list orders them.
 #[derive(Debug, Drop, PartialEq, Eq)]
 pub struct CreditLine {
     pub credits: u64,
     pub requests: u64,
     pub tester: ArrayVec<u8, 8>,
     pub unit: ArrayVec<u8, 8>,
+    pub functional: Option<ArrayVec<u8, 8>>,
 }
 
 // `cmp` is `line_order` of the definitions, in the form that `comparing` searches.
@@ -40,13 +43,15 @@ impl Ord for CreditLine {
     ghost cmp = { then_cmp (flip_args (on (λ line. line.credits) nat_cmp))
         (then_cmp (on (λ line. line.tester.items) (slice_cmp nat_cmp))
         (then_cmp (on (λ line. line.unit.items) (slice_cmp nat_cmp))
-        (flip_args (on (λ line. line.requests) nat_cmp)))) };
+        (then_cmp (flip_args (on (λ line. line.requests) nat_cmp))
+        (on (λ line. line.functional) (option_cmp (on (λ text. text.items) (slice_cmp nat_cmp))))))) };
 
     ghost total = { Prim.search (comparing, rules) depth 9 };
 
     ghost matches_partial_cmp = { Prim.search (comparing, rules) depth 9 };
 
-    ghost matches_eq = { Prim.search (comparing, rules) depth 9 };
+    ghost matches_eq = { λ x y. line_tie x.credits y.credits x.requests y.requests x.tester.items y.tester.items x.unit.items y.unit.items
+        x.functional y.functional };
 
     fn cmp(&self, other: &CreditLine) -> Ordering {
         other
@@ -55,6 +60,7 @@ impl Ord for CreditLine {
             .then_with(|| self.tester.cmp(&other.tester))
             .then_with(|| self.unit.cmp(&other.unit))
             .then_with(|| other.requests.cmp(&self.requests))
+            .then_with(|| self.functional.cmp(&other.functional))
     }
 }
 
@@ -63,10 +69,12 @@ impl PartialOrd for CreditLine {
     ghost partial_cmp = { as_partial_cmp (then_cmp (flip_args (on (λ line. line.credits) nat_cmp))
         (then_cmp (on (λ line. line.tester.items) (slice_cmp nat_cmp))
         (then_cmp (on (λ line. line.unit.items) (slice_cmp nat_cmp))
-        (flip_args (on (λ line. line.requests) nat_cmp))))) };
+        (then_cmp (flip_args (on (λ line. line.requests) nat_cmp))
+        (on (λ line. line.functional) (option_cmp (on (λ text. text.items) (slice_cmp nat_cmp)))))))) };
 
     ghost laws = { partial_order_from_own_ties (Prim.search (comparing, rules) depth 9)
-        (Prim.search (comparing, rules) depth 9) };
+        (λ x y. line_tie x.credits y.credits x.requests y.requests x.tester.items y.tester.items x.unit.items y.unit.items
+        x.functional y.functional) };
 
     fn partial_cmp(&self, other: &CreditLine) -> Option<Ordering> {
         Some(self.cmp(other))

@@ -1,14 +1,14 @@
 //! The tables of a finder: how much is counted under each key, and which asking a unit answered last.
 
-ghost use Rattle.std.specs.Prelude.{◌≡◌, ℕ, IfOk, IsSome, OnOk, OnErr};
+ghost use Rattle.std.specs.Prelude.{◌≡◌, ℕ, false, IfOk, IsSome, OnOk, OnErr};
 ghost use Rattle.std.specs.BTreeMap.{IsUnchanged};
 ghost use Rattle.std.specs.Map.{lookup};
+ghost use Rattle.std.specs.Option.{is_some};
 ghost use Rattle.can_log.specs.declared.frame.Id.{Id as IdValue};
 ghost use Rattle.uds_find.specs.Credit.{is_same, is_same_pair};
 ghost use Rattle.uds_find.specs.Finding.{IsTally, is_same_unit_service, number_at};
-ghost use Rattle.uds_find.specs.proving.Steps.{IsWritten, RisesByOne, without_new};
+ghost use Rattle.uds_find.specs.proving.Steps.{HasOnePlace, IsNewIn, IsWritten, RisesByOne, without_new};
 ghost use Rattle.uds_find.specs.proving.Steps as Steps;
-ghost use Rattle.uds_find.specs.declared.pair.IdPair.{IdPair as IdPairValue};
 ghost use Rattle.uds_find.specs.declared.pair.UnitService.{UnitService as UnitServiceValue};
 
 use crate::pair::{IdPair, UnitService};
@@ -20,8 +20,7 @@ use std::collections::BTreeMap;
 fn count_credit(credits: &mut BTreeMap<IdPair, u64>, pair: IdPair) -> Result<(), AllocError>
     ensures ok { OnOk result (RisesByOne is_same_pair pair credits.old.entries credits.new.entries) }
     ensures err { OnErr result (IsUnchanged credits.old credits.new) }
-    ensures needs { OnErr result ((count : IdPairValue → ℕ)
-        → IsTally is_same_pair count credits.old.entries → count pair ≡ 0) }
+    ensures needs { OnErr result (Steps.credits_in credits.old.entries pair ≡ 0) }
 {
     let counted = credits_of(credits, pair);
     // Below 2^62 frames it does not saturate, and no log has as many.
@@ -71,9 +70,11 @@ pub(crate) fn credit_once(
     asking: u64,
 ) -> Result<(), AllocError>
     ensures number { OnOk result (IsWritten answer asking answered.old.entries answered.new.entries) }
+    ensures place { OnOk result (HasOnePlace answer answered.old.entries answered.new.entries) }
     ensures count { OnOk result (RisesByOne is_same_pair pair credits.old.entries credits.new.entries) }
     ensures err { OnErr result (IsUnchanged answered.old answered.new) }
     ensures credits_err { OnErr result (IsUnchanged credits.old credits.new) }
+    ensures needs { OnErr result (IsNewIn answered.old.entries credits.old.entries answer pair) }
 {
     let is_new = make_place(answered, answer)?;
     if let Err(refused) = count_credit(credits, pair) {
@@ -89,11 +90,12 @@ fn make_place(
     answered: &mut BTreeMap<UnitService, u64>,
     key: UnitService,
 ) -> Result<bool, AllocError>
-    ensures place { OnOk result (IsSome (lookup (is_same_unit_service key) answered.new.entries)) }
+    ensures place { OnOk result (HasOnePlace key answered.old.entries answered.new.entries) }
     ensures stays { OnOk result ((other : UnitServiceValue)
         → number_at answered.new.entries other ≡ number_at answered.old.entries other) }
     ensures old { IfOk result (λ is_new. without_new key is_new answered.new.entries ≡ answered.old.entries) }
     ensures err { OnErr result (IsUnchanged answered.old answered.new) }
+    ensures needs { OnErr result (is_some (lookup (is_same_unit_service key) answered.old.entries) ≡ false) }
 {
     if answered.contains_key(&key) {
         return Ok(false);
@@ -114,7 +116,8 @@ fn take_place_back(answered: &mut BTreeMap<UnitService, u64>, key: UnitService, 
 /// Writes into its place which asking a unit has answered.
 fn number_answer(answered: &mut BTreeMap<UnitService, u64>, key: UnitService, asking: u64)
     requires { IsSome (lookup (is_same_unit_service key) answered.old.entries) }
-    ensures { IsWritten key asking answered.old.entries answered.new.entries }
+    ensures number { IsWritten key asking answered.old.entries answered.new.entries }
+    ensures place { HasOnePlace key answered.old.entries answered.new.entries }
 {
     // It has its place, so that no memory is needed and it does not fail.
     let _ = answered.insert(key, asking);

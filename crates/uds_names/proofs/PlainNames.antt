@@ -8,6 +8,7 @@ use Rattle.uds_names.specs.Services.{kwp_services, obd_services}
 use Rattle.uds_names.specs.SubFunctions.{communications, links, name_by_number, presences, reports, resets, routine_controls, security_name, sessions, settings}
 use Rattle.uds_names.specs.Identifiers.{data_identifiers, data_identifier_name, routines}
 use Rattle.uds_names.specs.ResponseCodes.{further_codes, response_code_name}
+use Rattle.uds_names.specs.TroubleCodes.{status_bits}
 use Rattle.uds_names.specs.Laws.{is_plain, is_plain_name, NamesArePlain}
 
 -- of two names that are plain, whichever it is
@@ -64,4 +65,5 @@ names_are_plain first second = (
   code_plain first,
   in_table obd_services refl first,
   in_table kwp_services refl first,
+  in_table status_bits refl first,
 )

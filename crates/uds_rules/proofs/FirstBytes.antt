@@ -84,7 +84,8 @@ not_spoken [] message some other = absurd (omega (arith, some))
 not_spoken (byte ∷ prefix) [] some other = refl
 not_spoken (byte ∷ prefix) (first ∷ message) some other = rw other refl
 
-both_false : (a b : Bool) → (a || b) ≡ false → (a ≡ false) × (b ≡ false)
+-- neither of two tests passes where none of both does
+pub both_false : (a b : Bool) → (a || b) ≡ false → (a ≡ false) × (b ≡ false)
 both_false true b off = absurd (false≢true (sym off))
 both_false false b off = (refl, off)
 
@@ -103,7 +104,7 @@ unspoken_stays (rule ∷ rules) message off =
     rw parts.0 (unspoken_stays rules message parts.1)
 
 -- what no rule speaks of has no rule
-no_rule : (rules : List RuleValue) (message : List ℕ) → is_spoken_of rules message ≡ false → rule_of rules message ≡ None
+pub no_rule : (rules : List RuleValue) (message : List ℕ) → is_spoken_of rules message ≡ false → rule_of rules message ≡ None
 no_rule [] message off = refl
 no_rule (rule ∷ rules) message off =
     let parts = both_false (speaks_of rule message) (is_spoken_of rules message) off in

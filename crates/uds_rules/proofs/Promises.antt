@@ -6,5 +6,7 @@ pub use Rattle.uds_rules.proofs.SameKinds.{mask_keeps_kind, no_byte_is_added}
 pub use Rattle.uds_rules.proofs.ByPlaces.{masked_by_places, no_byte_is_made_up}
 pub use Rattle.uds_rules.proofs.ReadBack.{prefix_is_read_back, pattern_is_read_back, read_as_spelled}
 pub use Rattle.uds_rules.proofs.FirstBytes.{unspoken_stays}
+-- neither of two tests passes where none of both does
+pub use Rattle.uds_rules.proofs.FirstBytes.{both_false}
 pub use Rattle.uds_rules.proofs.KeptBytes.{sub_function_stays, negative_response_stays, tester_present_stays}
 pub use Rattle.uds_rules.proofs.LegalRules.{spelled_drop_is_rule, spelled_mask_is_rule, none_are_rules, added_are_rules}

@@ -9,7 +9,7 @@ use Rattle.std.proofs.Math.Seq.{drop-append_seam, take-append_seam}
 use Rattle.hex.specs.Hex.{encode_upper, is_hex_digit}
 use Rattle.hex.proofs.HexLemmas.{decode_of-encode_upper, decode_of-ok}
 use Rattle.uds_rules.specs.Mask.{MaskValue}
-use Rattle.uds_rules.specs.Pattern.{place_text, end_text, mask_text, pattern_text, behind, place_in, in_front, mask_in, few_places, few_bytes, prefix_of, prefix_in, dropping, digits_of, marks_of, masking_parts}
+use Rattle.uds_rules.specs.Pattern.{place_mark, end_text, mask_text, pattern_text, behind, place_in, in_front, mask_in, few_places, few_bytes, prefix_of, prefix_in, dropping, digits_of, marks_of, masking_parts}
 use Rattle.uds_rules.specs.Laws.{PrefixIsReadBack, PatternIsReadBack, ReadAsSpelled}
 
 pub prefix_is_read_back : PrefixIsReadBack
@@ -17,26 +17,26 @@ prefix_is_read_back prefix bytes = ap (λ read. dropping (prefix_of read)) (deco
 
 -- ---- masks
 
-mask_read_back : (places : List Bool) (cuts : Bool) → mask_in (flat_map place_text places ++ end_text cuts) ≡ Some (record { places = places; cuts = cuts })
+mask_read_back : (places : List Bool) (cuts : Bool) → mask_in (flat_map place_mark places ++ end_text cuts) ≡ Some (record { places = places; cuts = cuts })
 mask_read_back [] true = refl
 mask_read_back [] false = refl
 mask_read_back (true ∷ places) cuts = ap (option_map (behind true)) (mask_read_back places cuts)
 mask_read_back (false ∷ places) cuts = ap (option_map (behind false)) (mask_read_back places cuts)
 
 -- a place that two bytes spell is spelled by them
-place_spelled : (one two : ℕ) (is_masked : Bool) → place_in one two ≡ Some is_masked → place_text is_masked ≡ one ∷ two ∷ []
+place_spelled : (one two : ℕ) (is_masked : Bool) → place_in one two ≡ Some is_masked → place_mark is_masked ≡ one ∷ two ∷ []
 place_spelled one two is_masked is =
     elim (cases_Bool (one == code "?" && two == code "?")) [
       | inl kept ↦
           let parts = and_parts (one == code "?") (two == code "?") kept in
           let which : false ≡ is_masked = same_Some _ _ (rw kept at is) in
-          ap place_text (sym which) ∙ ap (λ byte. byte ∷ code "?" ∷ []) (sym (eqb-true one _ parts.0)) ∙ ap (λ byte. one ∷ byte ∷ []) (sym (eqb-true two _ parts.1))
+          ap place_mark (sym which) ∙ ap (λ byte. byte ∷ code "?" ∷ []) (sym (eqb-true one _ parts.0)) ∙ ap (λ byte. one ∷ byte ∷ []) (sym (eqb-true two _ parts.1))
       | inr other ↦
           elim (cases_Bool (one == code "." && two == code ".")) [
             | inl masked ↦
                 let parts = and_parts (one == code ".") (two == code ".") masked in
                 let which : true ≡ is_masked = same_Some _ _ (rw masked at (rw other at is)) in
-                ap place_text (sym which) ∙ ap (λ byte. byte ∷ code "." ∷ []) (sym (eqb-true one _ parts.0)) ∙ ap (λ byte. one ∷ byte ∷ []) (sym (eqb-true two _ parts.1))
+                ap place_mark (sym which) ∙ ap (λ byte. byte ∷ code "." ∷ []) (sym (eqb-true one _ parts.0)) ∙ ap (λ byte. one ∷ byte ∷ []) (sym (eqb-true two _ parts.1))
             | inr neither ↦ absurd (none-some _ (rw neither at (rw other at is)))
           ]
     ]
@@ -48,7 +48,7 @@ front_spelled one two rest (Some is_masked) None mask of_place of_rest is = absu
 front_spelled one two rest (Some is_masked) (Some less) mask of_place of_rest is =
     ap (λ rest. one ∷ two ∷ rest) (of_rest less refl)
     ∙ ap (λ front. front ++ mask_text less) (sym (place_spelled one two is_masked of_place))
-    ∙ sym (append_assoc (place_text is_masked) (flat_map place_text less.places) (end_text less.cuts))
+    ∙ sym (append_assoc (place_mark is_masked) (flat_map place_mark less.places) (end_text less.cuts))
     ∙ ap mask_text (same_Some _ _ is)
 
 pub read_as_spelled : ReadAsSpelled
@@ -64,7 +64,7 @@ read_as_spelled (one ∷ two ∷ rest) mask is =
 -- ---- patterns
 
 -- the marks of a mask are no digits
-no_digit : (places : List Bool) (cuts : Bool) → prefix_len is_hex_digit (flat_map place_text places ++ end_text cuts) ≡ 0
+no_digit : (places : List Bool) (cuts : Bool) → prefix_len is_hex_digit (flat_map place_mark places ++ end_text cuts) ≡ 0
 no_digit [] true = refl
 no_digit [] false = refl
 no_digit (true ∷ places) cuts = refl

@@ -14,9 +14,9 @@ use Rattle.uds_rules.specs.declared.rule.RuleFault.TheVariants as fault
 -- ---- spelled
 
 -- a place: `??` where its byte is kept, `..` where it is masked
-abbrev pub place_text : Bool → List ℕ
-place_text false = codes "??"
-place_text true = codes ".."
+abbrev pub place_mark : Bool → List ℕ
+place_mark false = codes "??"
+place_mark true = codes ".."
 
 -- what follows the last place: `*` where it is cut off
 abbrev pub end_text : Bool → List ℕ
@@ -25,7 +25,7 @@ end_text true = codes "*"
 
 -- a mask, behind its prefix
 abbrev pub mask_text : MaskValue → List ℕ
-mask_text mask = flat_map place_text mask.places ++ end_text mask.cuts
+mask_text mask = flat_map place_mark mask.places ++ end_text mask.cuts
 
 -- a pattern: two digits for each byte of the prefix, here in upper case, and the mask
 abbrev pub pattern_text : List ℕ → MaskValue → List ℕ

@@ -48,7 +48,7 @@ impl Model for RuleTable {
 }
 
 impl RuleTable {
-    ghost use Rattle.std.specs.Prelude.{◌≡◌, ◌++◌, ◌∷◌, ◌<◌, ◌≤◌, [], true, false, length, IfSome, OnOk, IfOk, IfErr, OnErr};
+    ghost use Rattle.std.specs.Prelude.{◌≡◌, ◌++◌, ◌∷◌, ◌<◌, ◌≤◌, [], true, false, length, Some, None, IfSome, OnOk, IfOk, IfErr, OnErr};
     ghost use Rattle.uds_rules.specs.Rule.{made_of, is_masked, is_spoken_of, mask_of, rule_of};
     ghost use Rattle.uds_rules.specs.Rule as Spec;
     ghost use Rattle.uds_rules.specs.Legal.{AreRules};
@@ -131,11 +131,15 @@ impl RuleTable {
         }
     }
 
-    /// Whether a rule begins with the first byte of a message: else none speaks of it. No rule is looked at.
+    /// Whether a rule begins with the first byte of a message: else none speaks of it, and it stays as it is. No rule is looked
+    /// at.
     #[inline(always)]
     pub(crate) fn may_speak_of(&self, message: &[u8]) -> bool
         ensures value { result ≡ Spec.may_speak_of self.now message.now }
         ensures none { result ≡ false → is_spoken_of self.now message.now ≡ false }
+        ensures stays { result ≡ false → made_of self.now message.now ≡ Some message.now }
+        ensures ruled { result ≡ false → rule_of self.now message.now ≡ None }
+        ensures masked { result ≡ false → mask_of self.now message.now ≡ None }
     {
         self.first_places[sid(message) as usize] != 0
     }

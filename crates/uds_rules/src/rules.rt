@@ -49,7 +49,7 @@ impl Model for Rules {
 }
 
 impl Rules {
-    ghost use Rattle.std.specs.Prelude.{◌≡◌, ◌<◌, ◌≤◌, [], true, false, length, IfSome, IfOk, OnErr};
+    ghost use Rattle.std.specs.Prelude.{◌≡◌, ◌<◌, ◌≤◌, [], true, false, length, Some, None, IfSome, IfOk, OnErr};
     ghost use Rattle.uds_rules.specs.Rule.{made_of, is_masked, is_spoken_of, mask_of, rule_of};
     ghost use Rattle.uds_rules.specs.Rule as Spec;
     ghost use Rattle.uds_rules.specs.Legal.{AreRules};
@@ -122,11 +122,15 @@ impl Rules {
         }
     }
 
-    /// Whether a rule begins with the first byte of a message: else none speaks of it. No rule is looked at.
+    /// Whether a rule begins with the first byte of a message: else none speaks of it, and it stays as it is. No rule is looked
+    /// at: it costs less than to ask for the rule, of which most messages have none.
     #[inline(always)]
     pub fn may_speak_of(&self, message: &[u8]) -> bool
         ensures value { result ≡ Spec.may_speak_of self.now message.now }
         ensures none { result ≡ false → is_spoken_of self.now message.now ≡ false }
+        ensures stays { result ≡ false → made_of self.now message.now ≡ Some message.now }
+        ensures ruled { result ≡ false → rule_of self.now message.now ≡ None }
+        ensures masked { result ≡ false → mask_of self.now message.now ≡ None }
     {
         match &self.table {
             Some(table) => table.may_speak_of(message),

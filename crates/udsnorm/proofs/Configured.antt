@@ -24,9 +24,9 @@ use Rattle.udsnorm.specs.declared.profiled.SeenProfile.{SeenProfile}
 use Rattle.udsnorm.specs.declared.profiled.SeenProfile.TheVariants as seen
 use Rattle.udsnorm.specs.declared.job.Plan.{Plan}
 use Rattle.udsnorm.specs.declared.job.WordsFault.{WordsFault}
-use Rattle.udsnorm.specs.declared.job.WordsFault.TheVariants.{Help, Words, Identifier, Config, Profile, Unread, Memory}
+use Rattle.udsnorm.specs.declared.job.WordsFault.TheVariants.{Help, Words, Identifier, Config, Misfit, Unread, Memory}
 use Rattle.profile.specs.UnitKeys.{identifier_of}
-use Rattle.udsnorm.specs.Values.{limit_in, number_of, tester_in, unit_in}
+use Rattle.udsnorm.specs.Values.{functional_in, limit_in, number_of, tester_in, unit_in}
 use Rattle.udsnorm.specs.Words.{IsRefusedFor}
 
 -- what a text with a default holds
@@ -68,13 +68,15 @@ number_in found option value none some =
     number_read (one_of option (rows_of found)) value (λ is. none (same ∙ is)) (λ t is. some t (same ∙ is))
 
 -- the configuration of texts and a number that are these values
-pub of_values : (tester unit tester_value unit_value : Text) (limit limit_value : ℕ) (result : Result Settings WordsFault) → tester ≡ tester_value
-    → unit ≡ unit_value → limit ≡ limit_value → IsConfiguredBy (identifier_of tester) (identifier_of unit) limit result
-    → IsConfiguredBy (identifier_of tester_value) (identifier_of unit_value) limit_value result
-of_values tester unit tester_value unit_value limit limit_value result same_tester same_unit same_limit by =
-    subst (λ t. IsConfiguredBy (identifier_of t) (identifier_of unit_value) limit_value result) same_tester
-    (subst (λ u. IsConfiguredBy (identifier_of tester) (identifier_of u) limit_value result) same_unit
-    (subst (λ n. IsConfiguredBy (identifier_of tester) (identifier_of unit) n result) same_limit by))
+pub of_values : (tester unit tester_value unit_value : Text) (functional functional_value : Option (Option Id)) (limit limit_value : ℕ) (result : Result Settings WordsFault)
+    → tester ≡ tester_value → unit ≡ unit_value → functional ≡ functional_value → limit ≡ limit_value
+    → IsConfiguredBy (identifier_of tester) (identifier_of unit) functional limit result
+    → IsConfiguredBy (identifier_of tester_value) (identifier_of unit_value) functional_value limit_value result
+of_values tester unit tester_value unit_value functional functional_value limit limit_value result same_tester same_unit same_functional same_limit by =
+    subst (λ t. IsConfiguredBy (identifier_of t) (identifier_of unit_value) functional_value limit_value result) same_tester
+    (subst (λ u. IsConfiguredBy (identifier_of tester) (identifier_of u) functional_value limit_value result) same_unit
+    (subst (λ f. IsConfiguredBy (identifier_of tester) (identifier_of unit) f limit_value result) same_functional
+    (subst (λ n. IsConfiguredBy (identifier_of tester) (identifier_of unit) functional n result) same_limit by)))
 
 -- a fault that is none of the parser's
 abbrev IsOfValues : WordsFault → Type 0
@@ -82,28 +84,31 @@ IsOfValues (Help text) = ⊥
 IsOfValues (Words text) = ⊥
 IsOfValues Identifier = ⊤
 IsOfValues (Config fault) = ⊤
-IsOfValues (Profile line) = ⊤
+IsOfValues (Misfit line) = ⊤
 IsOfValues (Unread line) = ⊤
 IsOfValues Memory = ⊤
 
 -- no configuration of identifiers is none of the parser's
-of_identifiers : (tester unit : Id) (limit : ℕ) (fault : WordsFault) → IsConfiguredAs tester unit limit (Err fault) → IsOfValues fault
-of_identifiers tester unit limit (Help text) by = by
-of_identifiers tester unit limit (Words text) by = by
-of_identifiers tester unit limit Identifier by = tt
-of_identifiers tester unit limit (Config fault) by = tt
-of_identifiers tester unit limit (Profile line) by = tt
-of_identifiers tester unit limit (Unread line) by = tt
-of_identifiers tester unit limit Memory by = tt
+of_identifiers : (tester unit : Id) (functional : Option Id) (limit : ℕ) (fault : WordsFault) → IsConfiguredAs tester unit functional limit (Err fault) → IsOfValues fault
+of_identifiers tester unit functional limit (Help text) by = by
+of_identifiers tester unit functional limit (Words text) by = by
+of_identifiers tester unit functional limit Identifier by = tt
+of_identifiers tester unit functional limit (Config fault) by = tt
+of_identifiers tester unit functional limit (Misfit line) by = tt
+of_identifiers tester unit functional limit (Unread line) by = tt
+of_identifiers tester unit functional limit Memory by = tt
 
-of_fault : (tester unit : Option Id) (limit : ℕ) (fault : WordsFault) → IsConfiguredBy tester unit limit (Err fault) → IsOfValues fault
-of_fault (Some tester) (Some unit) limit fault by = of_identifiers tester unit limit fault by
-of_fault (Some tester) None limit fault by =
+of_no_identifier : (fault : WordsFault) → ◌≡◌ {A = Result Settings WordsFault} (Err fault) (Err Identifier) → IsOfValues fault
+of_no_identifier fault by =
     let is : fault ≡ Identifier = cc in
     subst IsOfValues (sym is) tt
-of_fault None unit limit fault by =
-    let is : fault ≡ Identifier = cc in
-    subst IsOfValues (sym is) tt
+
+of_fault : (tester unit : Option Id) (functional : Option (Option Id)) (limit : ℕ) (fault : WordsFault) → IsConfiguredBy tester unit functional limit (Err fault) → IsOfValues fault
+of_fault (Some tester) (Some unit) None limit fault by = of_identifiers tester unit None limit fault by
+of_fault (Some tester) (Some unit) (Some None) limit fault by = of_no_identifier fault by
+of_fault (Some tester) (Some unit) (Some (Some functional)) limit fault by = of_identifiers tester unit (Some functional) limit fault by
+of_fault (Some tester) None functional limit fault by = of_no_identifier fault by
+of_fault None unit functional limit fault by = of_no_identifier fault by
 
 -- nor is what is told of a profile
 of_told : (line : List ℕ) (fault : WordsFault) → IsTold line fault → IsOfValues fault
@@ -111,7 +116,7 @@ of_told line (Help text) by = by
 of_told line (Words text) by = by
 of_told line Identifier by = tt
 of_told line (Config fault) by = tt
-of_told line (Profile told) by = tt
+of_told line (Misfit told) by = tt
 of_told line (Unread told) by = tt
 of_told line Memory by = tt
 
@@ -120,7 +125,7 @@ of_unread line (Help text) by = by
 of_unread line (Words text) by = by
 of_unread line Identifier by = tt
 of_unread line (Config fault) by = tt
-of_unread line (Profile told) by = tt
+of_unread line (Misfit told) by = tt
 of_unread line (Unread told) by = tt
 of_unread line Memory by = tt
 
@@ -138,8 +143,8 @@ of_under rules IsPlain fault each (Err plain, by, is) =
     subst IsOfValues (sym same) (each plain by)
 
 of_sides : (sides : Option RunIdentifiers) (rows : List Row) (fault : WordsFault) → IsOfSides sides rows (Err fault) → IsOfValues fault
-of_sides None rows fault by = of_fault (tester_in rows) (unit_in rows) (limit_in rows) fault by
-of_sides (Some sides) rows fault by = of_identifiers sides.tester sides.unit (limit_in rows) fault by
+of_sides None rows fault by = of_fault (tester_in rows) (unit_in rows) (functional_in rows) (limit_in rows) fault by
+of_sides (Some sides) rows fault by = of_identifiers sides.tester sides.unit sides.functional (limit_in rows) fault by
 
 of_choice : (file : Text) (rows : List Row) (profile : ProfileValue) (choice : Result (Option RunIdentifiers) ChoiceFault) (fault : WordsFault) → IsOfChoice file rows profile choice (Err fault)
     → IsOfValues fault
@@ -153,7 +158,7 @@ of_beside None file rows profile fault by = of_choice file rows profile (chosen_
 of_bytes : (file : Text) (rows : List Row) (text : List ℕ) (fault : WordsFault) → IsOfBytes file rows text (Err fault) → IsOfValues fault
 of_bytes file rows text fault (inl (profile, readable, asked, by)) = of_beside (side_beside profile.units rows) file rows profile fault by
 of_bytes file rows text fault (inr (inl (line, told, wrong, by))) = of_told (line_about file told) fault by
-of_bytes file rows text fault (inr (inr memory)) = of_memory fault memory
+of_bytes file rows text fault (inr (inr (memory, wants))) = of_memory fault memory
 
 of_seen : (file : Text) (rows : List Row) (what : SeenProfile) (fault : WordsFault) → IsOfSeen file rows what (Err fault) → IsOfValues fault
 of_seen file rows (seen.Read text) fault by = of_bytes file rows text.items fault by
@@ -163,7 +168,7 @@ of_seen file rows seen.Memory fault by = of_memory fault by
 
 of_style : (both : Bool) (rows : List Row) (fault : WordsFault) → IsInOneStyle both rows (Err fault) → IsOfValues fault
 of_style true rows fault by = of_told (codes "--json beside --toml\n") fault by
-of_style false rows fault by = of_fault (tester_in rows) (unit_in rows) (limit_in rows) fault by
+of_style false rows fault by = of_fault (tester_in rows) (unit_in rows) (functional_in rows) (limit_in rows) fault by
 
 of_without : (only : Option Text) (rows : List Row) (fault : WordsFault) → IsWithout only rows (Err fault) → IsOfValues fault
 of_without None rows fault by = of_style (asks_for_both rows) rows fault by
@@ -179,7 +184,7 @@ refused_for asked rows what (Help text) by = of_named (first_of (codes "profile"
 refused_for asked rows what (Words text) by = absurd (of_named (first_of (codes "profile") rows) rows what (Words text) by)
 refused_for asked rows what Identifier by = by
 refused_for asked rows what (Config fault) by = by
-refused_for asked rows what (Profile line) by = by
+refused_for asked rows what (Misfit line) by = by
 refused_for asked rows what (Unread line) by = by
 refused_for asked rows what Memory by = tt
 

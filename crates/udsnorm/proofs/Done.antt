@@ -136,7 +136,7 @@ done_by says file source output errors (Err (words.Help text)) before old unsaid
 done_by says file source output errors (Err (words.Words text)) before old unsaid status known after new said log (same, known_is, did) zero grown = absurd (omega (arith, did.0, zero))
 done_by says file source output errors (Err words.Identifier) before old unsaid status known after new said log (same, known_is, did) zero grown = absurd (omega (arith, did.0, zero))
 done_by says file source output errors (Err (words.Config reason)) before old unsaid status known after new said log (same, known_is, did) zero grown = absurd (omega (arith, did.0, zero))
-done_by says file source output errors (Err (words.Profile line)) before old unsaid status known after new said log (same, known_is, did) zero grown = absurd (omega (arith, did.0, zero))
+done_by says file source output errors (Err (words.Misfit line)) before old unsaid status known after new said log (same, known_is, did) zero grown = absurd (omega (arith, did.0, zero))
 done_by says file source output errors (Err (words.Unread line)) before old unsaid status known after new said log (same, known_is, did) zero grown = absurd (omega (arith, did.0, zero))
 done_by says file source output errors (Err words.Memory) before old unsaid status known after new said log (same, known_is, did) zero grown = absurd (omega (arith, did.0, zero))
 
@@ -198,7 +198,7 @@ module _ {W E : Type 0} (output : TargetGhosts W) (errors : TargetGhosts E) wher
   told_once (words.Words text) old unsaid status new said told zero = absurd (omega (arith, told.0, zero))
   told_once words.Identifier old unsaid status new said told zero = absurd (omega (arith, told.0, zero))
   told_once (words.Config reason) old unsaid status new said told zero = absurd (omega (arith, told.0, zero))
-  told_once (words.Profile line) old unsaid status new said told zero = absurd (omega (arith, told.0, zero))
+  told_once (words.Misfit line) old unsaid status new said told zero = absurd (omega (arith, told.0, zero))
   told_once (words.Unread line) old unsaid status new said told zero = absurd (omega (arith, told.0, zero))
   told_once words.Memory old unsaid status new said told zero = absurd (omega (arith, told.0, zero))
 
@@ -212,6 +212,6 @@ module _ {W E : Type 0} (output : TargetGhosts W) (errors : TargetGhosts E) wher
   told_at_most_once (words.Words text) old unsaid status new said told = same_times old new told.1
   told_at_most_once words.Identifier old unsaid status new said told = same_times old new told.1
   told_at_most_once (words.Config reason) old unsaid status new said told = same_times old new told.1
-  told_at_most_once (words.Profile line) old unsaid status new said told = same_times old new told.1
+  told_at_most_once (words.Misfit line) old unsaid status new said told = same_times old new told.1
   told_at_most_once (words.Unread line) old unsaid status new said told = same_times old new told.1
   told_at_most_once words.Memory old unsaid status new said told = same_times old new told.1

@@ -11,7 +11,7 @@ use Rattle.trace_io.specs.Stream.{Gave}
 use Rattle.trace_io.specs.declared.device.Source.{Ghosts as SourceGhosts}
 use Rattle.udsnorm.specs.Commands.{command_in}
 use Rattle.udsnorm.specs.Opening.{Saying, opened, two_files}
-use Rattle.udsnorm.specs.Profiled.{IsApartFrom, IsSeen, IsSeenAt, IsSeenIn, IsUnread, WasRead, log_names}
+use Rattle.udsnorm.specs.Profiled.{IsApartFrom, IsSeenOf, IsSeenAt, IsSeenIn, IsUnread, WasRead, log_names}
 use Rattle.udsnorm.specs.Words.{AreParsedAs}
 use Rattle.udsnorm.specs.declared.profiled.SeenProfile.{SeenProfile}
 use Rattle.udsnorm.specs.declared.profiled.SeenProfile.TheVariants as seen
@@ -50,7 +50,7 @@ read_of says file name rows first last seen.Memory unread apart gave ended was =
 
 -- what is seen of the profile that a command names is seen for that command
 pub seen_named : {F : Type 0} (says : Saying F → Type 0) (file : SourceGhosts (CountedReader F)) (name : Text) (rows : List Row) (found : Option (Text × List Row)) (what : SeenProfile)
-    → Some rows ≡ option_map (λ p. p.1) found → Some name ≡ first_of (codes "profile") rows → IsSeenAt says file name rows what → IsSeen says file found what
+    → Some rows ≡ option_map (λ p. p.1) found → Some name ≡ first_of (codes "profile") rows → IsSeenAt says file name rows what → IsSeenOf says file found what
 seen_named says file name rows None what is named seen = tt
 seen_named says file name rows (Some found) what is named seen =
     let same : rows ≡ found.1 = ap (λ o. unwrap_or o []) is in
@@ -58,16 +58,16 @@ seen_named says file name rows (Some found) what is named seen =
 
 -- what is seen for the command that the parser found is seen for the words of which it says so
 pub seen_by : {F : Type 0} (says : Saying F → Type 0) (file : SourceGhosts (CountedReader F)) (words : List Text) (parsed : Result ArgMatches Error) (matches : ArgMatches) (what : SeenProfile)
-    → parsed ≡ Ok matches → IsSeen says file (subcommand_rows_of matches) what → AreParsedAs words parsed → IsSeen says file (command_in words) what
+    → parsed ≡ Ok matches → IsSeenOf says file (subcommand_rows_of matches) what → AreParsedAs words parsed → IsSeenOf says file (command_in words) what
 seen_by says file words parsed matches what is seen said =
     let taken : AreParsedAs words (Ok matches) = subst (AreParsedAs words) is said in
-    subst (λ found. IsSeen says file found what) taken.0 seen
+    subst (λ found. IsSeenOf says file found what) taken.0 seen
 
 -- where memory is refused nothing is said
 memory_in : {F : Type 0} (says : Saying F → Type 0) (file : SourceGhosts (CountedReader F)) (name : Option Text) (rows : List Row) → IsSeenIn says file name rows seen.Memory
 memory_in says file None rows = tt
 memory_in says file (Some name) rows = tt
 
-pub memory_of : {F : Type 0} (says : Saying F → Type 0) (file : SourceGhosts (CountedReader F)) (found : Option (Text × List Row)) → IsSeen says file found seen.Memory
+pub memory_of : {F : Type 0} (says : Saying F → Type 0) (file : SourceGhosts (CountedReader F)) (found : Option (Text × List Row)) → IsSeenOf says file found seen.Memory
 memory_of says file None = tt
 memory_of says file (Some found) = memory_in says file (first_of (codes "profile") found.1) found.1

@@ -13,7 +13,7 @@ use Rattle.clap.specs.declared.parser.matches.ArgMatches.{ArgMatches}
 use Rattle.udsnorm.specs.Commands.{command_in, commands, refusals, words_or_normalise}
 use Rattle.udsnorm.specs.declared.job.Plan.{Plan}
 use Rattle.udsnorm.specs.declared.job.WordsFault.{WordsFault}
-use Rattle.udsnorm.specs.declared.job.WordsFault.TheVariants.{Help, Words, Identifier, Config, Profile, Unread, Memory}
+use Rattle.udsnorm.specs.declared.job.WordsFault.TheVariants.{Help, Words, Identifier, Config, Misfit, Unread, Memory}
 use Rattle.udsnorm.specs.declared.profiled.SeenProfile.{SeenProfile}
 use Rattle.udsnorm.specs.Words.{AreParsedAs, IsCalled, IsPlanned, IsPlannedFrom, IsRefusedBy}
 
@@ -89,7 +89,7 @@ refused_by kinds error (Words text) (inr among) called = (called.3, (kind_of err
 refused_by kinds error Memory has called = tt
 refused_by kinds error Identifier has called = called
 refused_by kinds error (Config reason) has called = called
-refused_by kinds error (Profile line) has called = called
+refused_by kinds error (Misfit line) has called = called
 refused_by kinds error (Unread line) has called = called
 
 -- ---- what is planned of words, by what the parser says of them

@@ -1,16 +1,16 @@
 -- What is said of words that ask for nothing: what to write instead.
 use Prim.Native.Char.{code}
-use Rattle.std.specs.Prelude.{◌≡◌, ◌⊎◌, ℕ, ◌==◌, ◌&&◌, ◌||◌, nat_le, Bool, false, List, [], ◌∷◌, ◌++◌, codes, length, bytes_eq, Option, Some, None, unwrap_or, if◌then◌else◌}
+use Rattle.std.specs.Prelude.{◌≡◌, ◌⊎◌, ℕ, ◌==◌, ◌&&◌, ◌||◌, Bool, false, List, [], ◌∷◌, ◌++◌, codes, length, bytes_eq, Option, Some, None, unwrap_or, if◌then◌else◌}
 use Rattle.std.specs.Char.{is_ascii_hexdigit}
 use Rattle.std.specs.List.{list_all}
 use Rattle.can_log.specs.declared.frame.Id.{Id}
-use Rattle.can_log.specs.declared.frame.Id.TheVariants as id
 use Rattle.clap.specs.Walk.{Row, Text, first_of}
 use Rattle.trace_log.specs.declared.fault.ConfigFault.{ConfigFault}
 use Rattle.trace_log.specs.declared.fault.ConfigFault.TheVariants as config
 use Rattle.udsnorm.specs.Commands.{command_in, words_or_normalise}
-use Rattle.profile.specs.UnitKeys.{identifier_of}
+use Rattle.profile.specs.UnitKeys.{identifier_of, is_of_bus}
 use Rattle.line_text.specs.Quoted.{quoted}
+use Rattle.udsnorm.specs.Under.{UnderValue, under_in}
 use Rattle.udsnorm.specs.declared.job.WordsFault.{WordsFault}
 use Rattle.udsnorm.specs.declared.job.WordsFault.TheVariants as words
 
@@ -53,11 +53,10 @@ IsOfWords (word ∷ rest) line = IsOfFirst (line_of_word word) word rest line
 
 -- ---- identifiers
 
--- an identifier of 11 bits, or as an extended one of 29
-abbrev pub is_of_bus : Option Id → Bool
-is_of_bus None = false
-is_of_bus (Some (id.Std number)) = nat_le number 0x7FF
-is_of_bus (Some (id.Ext number)) = nat_le number 0x1FFFFFFF
+-- an identifier that a bus carries
+abbrev pub is_carried : Option Id → Bool
+is_carried None = false
+is_carried (Some identifier) = is_of_bus identifier
 
 -- the digits of an identifier
 abbrev pub is_spelled : Text → Bool
@@ -80,18 +79,48 @@ value_line option value = codes "hint: " ++ option ++ codes " is " ++ quoted val
 -- of values of which one is none, or that are the same
 abbrev pub values_line : Text → Text → List ℕ
 values_line tester unit =
-    if is_of_bus (identifier_of tester) then
-    (if is_of_bus (identifier_of unit) then codes "hint: --tester is " ++ quoted tester ++ codes ", --unit " ++ quoted unit ++ codes "\n" else value_line (codes "--unit") unit)
+    if is_carried (identifier_of tester) then
+    (if is_carried (identifier_of unit) then codes "hint: --tester is " ++ quoted tester ++ codes ", --unit " ++ quoted unit ++ codes "\n" else value_line (codes "--unit") unit)
     else value_line (codes "--tester") tester
+
+-- the same of three values
+abbrev pub all_values_line : Text → Text → Text → List ℕ
+all_values_line tester unit functional =
+    if is_carried (identifier_of tester) then
+    (if is_carried (identifier_of unit) then
+    (if is_carried (identifier_of functional) then
+    codes "hint: --tester is " ++ quoted tester ++ codes ", --unit " ++ quoted unit ++ codes ", --functional " ++ quoted functional ++ codes "\n"
+    else value_line (codes "--functional") functional)
+    else value_line (codes "--unit") unit)
+    else value_line (codes "--tester") tester
+
+-- of two values, or of three
+abbrev pub line_of_values : Text → Text → Option Text → List ℕ
+line_of_values tester unit None = values_line tester unit
+line_of_values tester unit (Some functional) = all_values_line tester unit functional
 
 -- of the values that are given, or the usual ones
 abbrev pub given_line : List Row → List ℕ
-given_line rows = values_line (unwrap_or (first_of (codes "tester") rows) (codes "7E0")) (unwrap_or (first_of (codes "unit") rows) (codes "7E8"))
+given_line rows =
+    line_of_values (unwrap_or (first_of (codes "tester") rows) (codes "7E0")) (unwrap_or (first_of (codes "unit") rows) (codes "7E8"))
+    (first_of (codes "functional") rows)
 
 -- of a command with these values
 abbrev pub IsOfCommand : Option (Text × List Row) → List ℕ → Type 0
 IsOfCommand None line = line ≡ []
 IsOfCommand (Some found) line = line ≡ given_line found.1
+
+-- ---- a profile
+
+-- of one of this name that can't be read: the file system says whether there is none, or it is a folder
+abbrev pub IsOfUnreadFile : Text → List ℕ → Type 0
+IsOfUnreadFile file line =
+    (line ≡ []) ⊎ ((line ≡ codes "hint: there is no file " ++ quoted file ++ codes "\n") ⊎ (line ≡ codes "hint: " ++ quoted file ++ codes " is a folder\n"))
+
+-- of the one that words name
+abbrev pub IsOfUnread : Option UnderValue → List ℕ → Type 0
+IsOfUnread None line = line ≡ []
+IsOfUnread (Some under) line = IsOfUnreadFile under.file line
 
 -- ---- what is said
 
@@ -99,14 +128,16 @@ IsOfCommand (Some found) line = line ≡ given_line found.1
 abbrev pub IsOfConfig : ConfigFault → List Text → List ℕ → Type 0
 IsOfConfig config.IdRange given line = IsOfCommand (command_in (words_or_normalise given)) line
 IsOfConfig config.SameId given line = IsOfCommand (command_in (words_or_normalise given)) line
+IsOfConfig config.SameFunctional given line = IsOfCommand (command_in (words_or_normalise given)) line
 IsOfConfig config.LimitRange given line = line ≡ codes "hint: --limit takes 1 to 1099511627776 bytes\n"
 
--- what is said of words that ask for nothing, by what is wrong with them; nothing of help, of a profile or of refused memory
+-- what is said of words that ask for nothing, by what is wrong with them; nothing of help, of what a profile says or of refused
+-- memory
 abbrev pub IsAdviceFor : WordsFault → List Text → List ℕ → Type 0
 IsAdviceFor (words.Help text) given line = line ≡ []
 IsAdviceFor (words.Words text) given line = IsOfWords given line
 IsAdviceFor words.Identifier given line = IsOfCommand (command_in (words_or_normalise given)) line
 IsAdviceFor (words.Config reason) given line = IsOfConfig reason given line
-IsAdviceFor (words.Profile told) given line = line ≡ []
-IsAdviceFor (words.Unread told) given line = line ≡ []
+IsAdviceFor (words.Misfit told) given line = line ≡ []
+IsAdviceFor (words.Unread told) given line = IsOfUnread (under_in (command_in (words_or_normalise given))) line
 IsAdviceFor words.Memory given line = line ≡ []

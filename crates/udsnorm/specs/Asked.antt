@@ -57,7 +57,7 @@ ToldWords output errors (words.Help text) old unsaid status new said = ToldHelp 
 ToldWords output errors (words.Words text) old unsaid status new said = (status ≡ 2) × (new ≡ old) × Took errors (words_text (words.Words text)) unsaid said
 ToldWords output errors words.Identifier old unsaid status new said = (status ≡ 2) × (new ≡ old) × Took errors (words_text words.Identifier) unsaid said
 ToldWords output errors (words.Config reason) old unsaid status new said = (status ≡ 2) × (new ≡ old) × Took errors (words_text (words.Config reason)) unsaid said
-ToldWords output errors (words.Profile line) old unsaid status new said = (status ≡ 2) × (new ≡ old) × Took errors (words_text (words.Profile line)) unsaid said
+ToldWords output errors (words.Misfit line) old unsaid status new said = (status ≡ 2) × (new ≡ old) × Took errors (words_text (words.Misfit line)) unsaid said
 ToldWords output errors (words.Unread line) old unsaid status new said = (status ≡ 4) × (new ≡ old) × Took errors (words_text (words.Unread line)) unsaid said
 ToldWords output errors words.Memory old unsaid status new said = (status ≡ 5) × (new ≡ old) × Took errors (words_text words.Memory) unsaid said
 
@@ -173,7 +173,7 @@ IsDoneBy says file (Err (words.Help text)) log before after = after ≡ before +
 IsDoneBy says file (Err (words.Words text)) log before after = ⊥
 IsDoneBy says file (Err words.Identifier) log before after = ⊥
 IsDoneBy says file (Err (words.Config reason)) log before after = ⊥
-IsDoneBy says file (Err (words.Profile line)) log before after = ⊥
+IsDoneBy says file (Err (words.Misfit line)) log before after = ⊥
 IsDoneBy says file (Err (words.Unread line)) log before after = ⊥
 IsDoneBy says file (Err words.Memory) log before after = ⊥
 

@@ -74,9 +74,10 @@ flag name = record (new_rule name) { long = Some name; action = Some SetTrue }
 abbrev pub file : Text → Bool → Rule
 file name is_required = record (new_rule name) { required = is_required }
 
--- the identifiers of both sides, or a profile and one of its units
+-- the identifiers of both sides and that of functional requests, or a profile and one of its units
 abbrev pub sides : List Rule
-sides = option (codes "tester") ∷ option (codes "unit") ∷ option (codes "profile") ∷ option (codes "only") ∷ []
+sides =
+    option (codes "tester") ∷ option (codes "unit") ∷ option (codes "functional") ∷ option (codes "profile") ∷ option (codes "only") ∷ []
 
 -- the limit, which is a gibibyte where none is given
 abbrev pub usual_limit : List Rule

@@ -34,6 +34,7 @@ side_line (Right fault) = codes "right: " ++ fault_line fault
 abbrev pub config_line : ConfigFault → List ℕ
 config_line config.IdRange = codes "identifier out of range\n"
 config_line config.SameId = codes "tester and unit have the same identifier\n"
+config_line config.SameFunctional = codes "functional identifier is that of tester or unit\n"
 config_line config.LimitRange = codes "limit out of range\n"
 
 -- the line of two logs that are one stream
@@ -46,7 +47,7 @@ words_text (words.Help text) = string_bytes text
 words_text (words.Words text) = string_bytes text
 words_text words.Identifier = codes "identifier is not three or eight hexadecimal digits\n"
 words_text (words.Config reason) = config_line reason
-words_text (words.Profile line) = line.items
+words_text (words.Misfit line) = line.items
 words_text (words.Unread line) = line.items
 words_text words.Memory = fault_line fault.Memory
 

@@ -1,5 +1,5 @@
 -- What is known of a log for a hint, by what a run over it came to.
-use Rattle.std.specs.Prelude.{◌≡◌, ◌⊎◌, ℕ, ◌==◌, nat_lt, Bool, List, length, take, Option, Some, None, Result, Ok, Err, if◌then◌else◌}
+use Rattle.std.specs.Prelude.{◌≡◌, ◌⊎◌, ℕ, ◌==◌, ◌&&◌, ◌||◌, nat_lt, Bool, List, length, take, Option, Some, None, Result, Ok, Err, if◌then◌else◌}
 use Rattle.trace_log.specs.Settings.{Settings}
 use Rattle.trace_log.specs.declared.fault.CompareFault.{CompareFault}
 use Rattle.trace_log.specs.declared.fault.CompareFault.TheVariants.{Left, Right}
@@ -87,9 +87,18 @@ abbrev pub known_of_done : Job → Settings → Summary → List ℕ → Option 
 known_of_done (job.Find style) settings summary taken = knows_no_pair summary taken
 known_of_done other settings summary taken = or_else (known_by_counts First settings summary) (knows_dropped_for other summary.dropped)
 
--- what is known of two logs that were accepted: what the counts of the first one tell, or else those of the second one
+-- it is known of two logs that rules leave nothing of either: each message of both is left out, and there is one
+abbrev pub knows_nothing_left : Summary → Summary → Option Known
+knows_nothing_left left right =
+    if ((left.messages == left.left_out) && (right.messages == right.left_out)) && (nat_lt 0 left.left_out || nat_lt 0 right.left_out)
+    then knows First matter.NothingLeft else None
+
+-- what is known of two logs that were accepted: what the counts of the first one tell, or else those of the second one, or
+-- else that rules leave nothing of either
 abbrev pub known_of_pair : Settings → PairAnswer → Option Known
-known_of_pair settings pair = or_else (known_by_counts First settings pair.left) (known_by_counts Second settings pair.right)
+known_of_pair settings pair =
+    or_else (known_by_counts First settings pair.left)
+    (or_else (known_by_counts Second settings pair.right) (knows_nothing_left pair.left pair.right))
 
 -- what is known of a log by the outcome of a job over it, whose source gave these bytes and was over or not, and of
 -- which the output took this

@@ -13,6 +13,7 @@ pub mod Profiled
 pub mod Known
 pub mod Asked
 pub mod Names
+pub mod Under
 pub mod Advice
 pub mod Hints
 pub mod Process

@@ -4,9 +4,9 @@ use Rattle.std.specs.Prelude.{ℕ, ◌==◌, List, [], ◌∷◌, ◌++◌, code
 use Rattle.line_text.specs.Quoted.{quoted}
 
 -- the name of a log, which may have none
-abbrev pub named : Option (List ℕ) → List ℕ
-named None = codes "standard input"
-named (Some name) = quoted name
+abbrev pub log_name : Option (List ℕ) → List ℕ
+log_name None = codes "standard input"
+log_name (Some name) = quoted name
 
 -- what stands between a command and a name: `--`, too, where it begins with a dash, since it is no option behind that
 abbrev pub before_name : List ℕ → List ℕ

@@ -8,7 +8,7 @@ use Rattle.udsnorm.specs.Asked.{DidWords}
 use Rattle.udsnorm.specs.Commands.{command_in, words_or_normalise}
 use Rattle.udsnorm.specs.Hints.{GaveHint, ToldAwaited, asks_for_hints}
 use Rattle.udsnorm.specs.Opening.{Saying}
-use Rattle.udsnorm.specs.Profiled.{IsSeen}
+use Rattle.udsnorm.specs.Profiled.{IsSeenOf}
 use Rattle.udsnorm.specs.declared.ended.Known.{Known}
 use Rattle.udsnorm.specs.declared.job.Plan.{Plan}
 use Rattle.udsnorm.specs.declared.job.WordsFault.{WordsFault}
@@ -34,7 +34,7 @@ pub record Served {F R W E : Type 0} (says : Saying F → Type 0) (file : Source
     (terminals : Terminals) (before : R) (old : W) (unsaid : E) (status : ℕ) (after : R) (new : W) (said : E) : Type 0 where
   -- what was seen of the profile that the words name
   pub seen : SeenProfile
-  pub profile : IsSeen says file (command_in (words_or_normalise given)) seen
+  pub profile : IsSeenOf says file (command_in (words_or_normalise given)) seen
   pub asked : Result Plan WordsFault
   pub known : Option Known
   pub begun : E

@@ -68,6 +68,6 @@ IsSeenIn says file None rows what = ⊤
 IsSeenIn says file (Some name) rows what = IsSeenAt says file name rows what
 
 -- the same of the command that was found
-abbrev pub IsSeen : {F : Type 0} → (Saying F → Type 0) → SourceGhosts (CountedReader F) → Option (Text × List Row) → SeenProfile → Type 0
-IsSeen says file None what = ⊤
-IsSeen says file (Some found) what = IsSeenIn says file (first_of (codes "profile") found.1) found.1 what
+abbrev pub IsSeenOf : {F : Type 0} → (Saying F → Type 0) → SourceGhosts (CountedReader F) → Option (Text × List Row) → SeenProfile → Type 0
+IsSeenOf says file None what = ⊤
+IsSeenOf says file (Some found) what = IsSeenIn says file (first_of (codes "profile") found.1) found.1 what

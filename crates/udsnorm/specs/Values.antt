@@ -1,5 +1,5 @@
 -- What the words give the options and files of a command.
-use Rattle.std.specs.Prelude.{ℕ, Bool, List, [], codes, Option, Some, None, unwrap_or, bytes_eq, if◌then◌else◌}
+use Rattle.std.specs.Prelude.{ℕ, Bool, List, [], codes, Option, Some, None, option_map, unwrap_or, bytes_eq, if◌then◌else◌}
 use Rattle.std.specs.Path.{path_file_name}
 use Rattle.std.specs.Str.Parse.{digits_value, without_leading_plus}
 use Rattle.clap.specs.ValueTests.{is_unsigned_in}
@@ -56,6 +56,10 @@ tester_in rows = identifier_in rows (codes "tester") (codes "7E0")
 -- the identifier of the unit
 abbrev pub unit_in : List Row → Option Id
 unit_in rows = identifier_in rows (codes "unit") (codes "7E8")
+
+-- the identifier of functional requests, which no command has where none is given: where a text is, the one that it spells
+abbrev pub functional_in : List Row → Option (Option Id)
+functional_in rows = option_map identifier_of (first_of (codes "functional") rows)
 
 -- The number of 64 bits that a text spells in decimal digits, with a plus before them or without. Where it spells none,
 -- which the parser takes for no limit, 0.

@@ -16,7 +16,7 @@ use Rattle.udsnorm.specs.declared.commands.Task.TheVariants as task
 use Rattle.udsnorm.specs.declared.job.Plan.{Plan}
 use Rattle.udsnorm.specs.declared.job.Plan.TheVariants.{One, Two}
 use Rattle.udsnorm.specs.declared.job.WordsFault.{WordsFault}
-use Rattle.udsnorm.specs.declared.job.WordsFault.TheVariants.{Help, Words, Identifier, Config, Profile, Unread, Memory}
+use Rattle.udsnorm.specs.declared.job.WordsFault.TheVariants.{Help, Words, Identifier, Config, Misfit, Unread, Memory}
 use Rattle.udsnorm.specs.declared.profiled.SeenProfile.{SeenProfile}
 
 -- the plan that the options and files of a command ask for, with what is seen of their profile: of its job over LOG, if it
@@ -39,7 +39,7 @@ LacksFile (task.One job) rows = ⊥
 abbrev pub IsRefusedFor : Task → List Row → SeenProfile → WordsFault → Type 0
 IsRefusedFor asked rows seen Identifier = IsConfigured rows seen (Err Identifier)
 IsRefusedFor asked rows seen (Config fault) = IsConfigured rows seen (Err (Config fault))
-IsRefusedFor asked rows seen (Profile line) = IsConfigured rows seen (Err (Profile line))
+IsRefusedFor asked rows seen (Misfit line) = IsConfigured rows seen (Err (Misfit line))
 IsRefusedFor asked rows seen (Unread line) = IsConfigured rows seen (Err (Unread line))
 IsRefusedFor asked rows seen (Help text) = ⊥
 IsRefusedFor asked rows seen (Words text) = LacksFile asked rows × IsShown (string_bytes text)
@@ -58,7 +58,7 @@ IsCalled kind (Words text) = (kind ≢ DisplayHelp) × (kind ≢ DisplayVersion)
 IsCalled kind Memory = kind ≡ OutOfMemory
 IsCalled kind Identifier = ⊥
 IsCalled kind (Config fault) = ⊥
-IsCalled kind (Profile line) = ⊥
+IsCalled kind (Misfit line) = ⊥
 IsCalled kind (Unread line) = ⊥
 
 -- what is said of words that the parser does not take: help or the version, where one of them was asked for, or what is
@@ -69,7 +69,7 @@ IsRefusedBy kinds (Words text) = IsShown (string_bytes text) × ((kind : ErrorKi
 IsRefusedBy kinds Memory = ⊤
 IsRefusedBy kinds Identifier = ⊥
 IsRefusedBy kinds (Config fault) = ⊥
-IsRefusedBy kinds (Profile line) = ⊥
+IsRefusedBy kinds (Misfit line) = ⊥
 IsRefusedBy kinds (Unread line) = ⊥
 
 -- what the parser says of the words: where it takes them, the command that it finds, and else an error of the kinds that it

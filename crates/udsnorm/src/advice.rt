@@ -4,17 +4,20 @@ ghost use Rattle.std.specs.Prelude.{◌≡◌, IfOk, map, option_map, string_byt
 ghost use Rattle.std.specs.Char.{is_ascii_hexdigit};
 ghost use Rattle.std.specs.List.{list_all};
 ghost use Rattle.clap.specs.Words.{found_of, rows_of, subcommand_rows_of};
-ghost use Rattle.udsnorm.specs.Advice.{IsAdviceFor, IsOfCommand, IsOfFiles, IsOfFirst, IsOfWords, behind_prefix, file_line, files_line, given_line, is_of_bus, is_spelled, line_of_word, value_line, values_line};
+ghost use Rattle.udsnorm.specs.Advice.{IsAdviceFor, IsOfCommand, IsOfFiles, IsOfFirst, IsOfUnread, IsOfUnreadFile, IsOfWords, behind_prefix, file_line, files_line, given_line, is_carried, is_spelled, line_of_word, all_values_line, value_line, values_line};
 ghost use Rattle.udsnorm.specs.Commands.{command_in, words_or_normalise};
+ghost use Rattle.udsnorm.specs.Under.{under_in};
 
-use crate::commands::{COMMANDS, TESTER, UNIT, USUAL_TESTER, USUAL_UNIT};
+use crate::commands::{COMMANDS, FUNCTIONAL, TESTER, UNIT, USUAL_TESTER, USUAL_UNIT};
 use crate::job::WordsFault;
+use crate::opening::{OpenFault, open_fault};
+use crate::under::under_of;
 use crate::values::text_of;
 use crate::words::found;
 use can_log::Id;
 use clap::ArgMatches;
 use line_text::{Quoted, line_in};
-use profile::identifier_of;
+use profile::{identifier_of, is_of_bus};
 use std::alloc::{AllocError, Global};
 use std::fs;
 use std::rt::Files;
@@ -48,12 +51,13 @@ pub(crate) fn advice_for<R: AllocGlobal + Files>(
     let alloc = rt.alloc();
     match fault {
         WordsFault::Words(_) => advice_for_words(rt, words),
-        WordsFault::Identifier | WordsFault::Config(ConfigFault::IdRange | ConfigFault::SameId) => {
-            advice_for_values(alloc, words)
-        }
+        WordsFault::Identifier
+        | WordsFault::Config(
+            ConfigFault::IdRange | ConfigFault::SameId | ConfigFault::SameFunctional,
+        ) => advice_for_values(alloc, words),
         WordsFault::Config(ConfigFault::LimitRange) => line_in(alloc, OF_THE_LIMIT),
-        WordsFault::Help(_) | WordsFault::Profile(_) | WordsFault::Unread(_) | WordsFault::Memory =>
-            Ok(Vec::new(alloc)),
+        WordsFault::Unread(_) => advice_for_profile(rt, words),
+        WordsFault::Help(_) | WordsFault::Misfit(_) | WordsFault::Memory => Ok(Vec::new(alloc)),
     }
 }
 
@@ -124,6 +128,38 @@ fn names_a_file<R: Files>(rt: &R, word: &str) -> bool {
     }
 }
 
+/// The line for words whose profile can't be read. The parser took these words: that it does not now is that memory is
+/// refused.
+fn advice_for_profile<R: AllocGlobal + Files>(
+    rt: &R,
+    words: &[String],
+) -> Result<Vec<u8>, AllocError>
+    ensures { IfOk result (λ line. IsOfUnread (under_in (command_in (words_or_normalise (map string_bytes words.now)))) line.items) }
+{
+    match found(rt.alloc(), words) {
+        Ok(matches) => match under_of(&matches) {
+            Some(under) => unread_line(rt, under.file),
+            None => Ok(Vec::new(rt.alloc())),
+        },
+        Err(_) => Err(AllocError),
+    }
+}
+
+/// The line for a profile of this name that can't be read, where the file system says why.
+fn unread_line<R: AllocGlobal + Files>(rt: &R, file: &str) -> Result<Vec<u8>, AllocError>
+    ensures { IfOk result (λ line. IsOfUnreadFile file.entry.now line.items) }
+{
+    let name = Quoted(file.as_bytes());
+    match fs::metadata(rt, file) {
+        Ok(found) if found.is_dir() => line_in(rt.alloc(), ("hint: ", name, " is a folder\n")),
+        Ok(_) => Ok(Vec::new(rt.alloc())),
+        Err(error) => match open_fault(&error) {
+            OpenFault::Missing => line_in(rt.alloc(), ("hint: there is no file ", name, "\n")),
+            OpenFault::Denied | OpenFault::Other => Ok(Vec::new(rt.alloc())),
+        },
+    }
+}
+
 /// Whether a word is a command.
 fn is_command(word: &str) -> bool {
     COMMANDS.iter().any(|row| row.name == word)
@@ -189,17 +225,52 @@ fn given_line(alloc: Global, found: &ArgMatches<'_>) -> Result<Vec<u8>, AllocErr
 {
     let tester = text_of(found, TESTER).unwrap_or(USUAL_TESTER);
     let unit = text_of(found, UNIT).unwrap_or(USUAL_UNIT);
-    values_line(alloc, tester, unit)
+    match text_of(found, FUNCTIONAL) {
+        Some(functional) => all_values_line(alloc, tester, unit, functional),
+        None => values_line(alloc, tester, unit),
+    }
+}
+
+/// The line for three values of which one is no identifier, or of which two are the same.
+fn all_values_line<'a>(
+    alloc: Global,
+    tester: &'a str,
+    unit: &'a str,
+    functional: &'a str,
+) -> Result<Vec<u8>, AllocError>
+    ensures { IfOk result (λ line. line.items ≡ all_values_line tester.entry.now unit.entry.now functional.entry.now) }
+{
+    if !is_carried(identifier_of(tester)) {
+        return value_line(alloc, "--tester", tester);
+    }
+    if !is_carried(identifier_of(unit)) {
+        return value_line(alloc, "--unit", unit);
+    }
+    if !is_carried(identifier_of(functional)) {
+        return value_line(alloc, "--functional", functional);
+    }
+    line_in(
+        alloc,
+        (
+            "hint: --tester is ",
+            Quoted(tester.as_bytes()),
+            ", --unit ",
+            Quoted(unit.as_bytes()),
+            ", --functional ",
+            Quoted(functional.as_bytes()),
+            "\n",
+        ),
+    )
 }
 
 /// The line for two values of which one is no identifier, or that are the same.
 fn values_line<'a>(alloc: Global, tester: &'a str, unit: &'a str) -> Result<Vec<u8>, AllocError>
     ensures { IfOk result (λ line. line.items ≡ values_line tester.entry.now unit.entry.now) }
 {
-    if !is_of_bus(identifier_of(tester)) {
+    if !is_carried(identifier_of(tester)) {
         return value_line(alloc, "--tester", tester);
     }
-    if !is_of_bus(identifier_of(unit)) {
+    if !is_carried(identifier_of(unit)) {
         return value_line(alloc, "--unit", unit);
     }
     line_in(
@@ -214,13 +285,12 @@ fn values_line<'a>(alloc: Global, tester: &'a str, unit: &'a str) -> Result<Vec<
     )
 }
 
-/// Whether a bus can carry the identifier.
-fn is_of_bus(id: Option<Id>) -> bool
-    ensures { result ≡ is_of_bus id }
+/// Whether there is an identifier, and a bus carries it.
+fn is_carried(identifier: Option<Id>) -> bool
+    ensures { result ≡ is_carried identifier }
 {
-    match id {
-        Some(Id::Std(number)) => number <= 0x7FF,
-        Some(Id::Ext(number)) => number <= 0x1FFF_FFFF,
+    match identifier {
+        Some(identifier) => is_of_bus(identifier),
         None => false,
     }
 }

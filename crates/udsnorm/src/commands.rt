@@ -193,6 +193,8 @@ pub(crate) const TESTER: &str = "tester";
 
 pub(crate) const UNIT: &str = "unit";
 
+pub(crate) const FUNCTIONAL: &str = "functional";
+
 pub(crate) const PROFILE: &str = "profile";
 
 pub(crate) const ONLY: &str = "only";
@@ -237,6 +239,11 @@ const SIDES: &[Argument] = &[
         help: OF_THE_UNIT,
     },
     Argument::Text {
+        name: FUNCTIONAL,
+        value: "ID",
+        help: OF_ALL_UNITS,
+    },
+    Argument::Text {
         name: PROFILE,
         value: "FILE",
         help: "What to leave out of the session, and the units of the bench, as TOML",
@@ -261,6 +268,11 @@ const SIDES_OF_THE_LOG: &[Argument] = &[
         help: OF_THE_UNIT,
     },
     Argument::Text {
+        name: FUNCTIONAL,
+        value: "ID",
+        help: OF_ALL_UNITS,
+    },
+    Argument::Text {
         name: PROFILE,
         value: "FILE",
         help: "The units of the bench, as TOML; nothing is left out here",
@@ -276,6 +288,8 @@ const OF_THE_TESTER: &str = "Identifier of the tester, 3 or 8 hexadecimal digits
 
 const OF_THE_UNIT: &str =
     "Identifier of the control unit, 3 or 8 hexadecimal digits [default: 7E8]";
+
+const OF_ALL_UNITS: &str = "Identifier on which the tester asks all units, as 7DF [default: none]";
 
 const OF_ONE_UNIT: &str = "The unit of the profile whose session this is";
 
@@ -495,9 +509,8 @@ Exit status: 0 done, 2 wrong words, 3 the log is refused,
 Example: udsnorm messages recorded.log | grep '^12 '";
 
 const OF_REPORT: &str = "\
-The page is one file, which fetches nothing: for a browser, a mail or a printer. Its chart has a
-row for each message, and for what was dropped or is missing, in the order of the log. Above it
-stands the verdict, with links to what needs a look.
+The page is one file, which fetches nothing. Its chart has a row for each message, and for what
+was dropped or is missing; above it stands the verdict, with links to what needs a look.
 
 Of two logs the page says whether they are the same session, and shows side by side where they
 differ first, as in `udsnorm report yesterday.log today.log > difference.html`.
@@ -512,9 +525,9 @@ Example: udsnorm report recorded.log > recorded.html";
 
 const OF_FIND: &str = "\
 A line is an identifier that answered, behind its tester, and how many of the tester's requests
-it answered, the most first. The words behind the number can be handed to the other commands.
-With `--toml` it is a unit for a profile. All is written at the end of the log. Only frames that
-begin a message are looked at.
+it answered, the most first; and an identifier for functional requests, where the log has one.
+The words behind the number can be handed to the other commands. With `--toml` it is a unit for
+a profile. All is written at the end of the log. Only frames that begin a message are looked at.
 
 A log in which nothing is answered has no line, and the status is 0.
 
@@ -528,8 +541,7 @@ Prints `same`, or `different at item N`, where N is the number that `list` gives
 `--show` also the lines that `list` has for it, `left: ` and `right: ` before them, or `nothing`
 where a log has fewer items.
 
-Two logs that hold neither identifier mean the same. The last line of `udsnorm explain` says
-`frames 0` of each.
+Two logs that hold neither identifier mean the same; `udsnorm explain` ends with `frames 0`.
 
 Exit status: 0 the logs mean the same, 1 they differ, 2 wrong words, 3 a log is refused,
 4 a file can't be opened, or reading or writing failed, 5 out of memory,

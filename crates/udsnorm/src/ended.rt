@@ -2,7 +2,7 @@
 
 ghost use Rattle.std.specs.Prelude.{◌≡◌, ◌⊎◌, option_map};
 ghost use Rattle.udsnorm.specs.Hints.{name_in};
-ghost use Rattle.udsnorm.specs.Known.{IsKnownBy, IsKnownByFault, IsKnownByTwo, known_by_counts, known_of_done, known_of_pair, knows, knows_dropped, knows_dropped_for, knows_no_pair, knows_refused, knows_unopened};
+ghost use Rattle.udsnorm.specs.Known.{IsKnownBy, IsKnownByFault, IsKnownByTwo, known_by_counts, known_of_done, known_of_pair, knows, knows_nothing_left, knows_dropped, knows_dropped_for, knows_no_pair, knows_refused, knows_unopened};
 ghost use Rattle.udsnorm.specs.declared.ended.Matter.TheVariants as matter;
 
 use crate::commands::Job;
@@ -91,6 +91,8 @@ pub enum Matter {
     Foreign { tester: Id, unit: Id },
     /// Tester and unit look exchanged in it, where these are their identifiers.
     Exchanged { tester: Id, unit: Id },
+    /// Rules leave nothing of it, nor of the other one.
+    NothingLeft,
     /// So many of its frames were dropped.
     Dropped(u64),
 }
@@ -239,7 +241,22 @@ fn known_of_pair(config: &Config, pair: &PairAnswer) -> Option<Known>
 {
     match known_by_counts(Which::First, config, &pair.left) {
         Some(known) => Some(known),
-        None => known_by_counts(Which::Second, config, &pair.right),
+        None => match known_by_counts(Which::Second, config, &pair.right) {
+            Some(known) => Some(known),
+            None => known_of_rules(&pair.left, &pair.right),
+        },
+    }
+}
+
+/// What is known of two logs of which nothing is left, where rules leave out something.
+fn known_of_rules(left: &Summary, right: &Summary) -> Option<Known>
+    ensures { result ≡ knows_nothing_left left.now right.now }
+{
+    let leaves_none = left.messages == left.left_out && right.messages == right.left_out;
+    if leaves_none && (left.left_out > 0 || right.left_out > 0) {
+        knows(Which::First, Matter::NothingLeft)
+    } else {
+        None
     }
 }
 

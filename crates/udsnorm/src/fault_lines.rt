@@ -113,7 +113,7 @@ pub(crate) fn words_text(fault: &WordsFault) -> &[u8]
         WordsFault::Help(text) | WordsFault::Words(text) => text.as_bytes(),
         WordsFault::Identifier => b"identifier is not three or eight hexadecimal digits\n",
         WordsFault::Config(fault) => config_line(*fault).as_bytes(),
-        WordsFault::Profile(line) | WordsFault::Unread(line) => line.as_slice(),
+        WordsFault::Misfit(line) | WordsFault::Unread(line) => line.as_slice(),
         WordsFault::Memory => b"out of memory\n",
     }
 }
@@ -125,6 +125,7 @@ fn config_line(fault: ConfigFault) -> &'static str
     match fault {
         ConfigFault::IdRange => "identifier out of range\n",
         ConfigFault::SameId => "tester and unit have the same identifier\n",
+        ConfigFault::SameFunctional => "functional identifier is that of tester or unit\n",
         ConfigFault::LimitRange => "limit out of range\n",
     }
 }

@@ -5,7 +5,9 @@ ghost use Rattle.udsnorm.specs.Hints.{missing_words};
 
 use crate::ended::Matter;
 use crate::names::{Behind, LogName};
+use crate::under::Under;
 use can_log::Id;
+use line_text::Quoted;
 use text_parts::{Part, say};
 use trace_io::TextSink;
 use trace_report::RefusalCauseText;
@@ -15,18 +17,27 @@ use trace_text::{Identifier, Number};
 const NO_PAIR: &str =
     " answers another identifier; find needs the frames of both sides, and looks at each identifier up to 1FFFFFFF\n";
 
-/// The line of a hint about a log, which has no name if it is standard input.
+/// The line of a hint about a log, which has no name if it is standard input, under the profile that the words name.
 #[derive(Clone, Copy)]
-pub(crate) struct HintLine<'a>(pub Matter, pub Option<&'a str>);
+pub(crate) struct HintLine<'a> {
+    pub under: Option<Under<'a>>,
+    pub matter: Matter,
+    pub name: Option<&'a str>,
+}
 
 impl<'a> Part for HintLine<'a> {
     ghost use Rattle.std.specs.Prelude.{option_map};
     ghost use Rattle.udsnorm.specs.Hints.{hint_line};
+    ghost use Rattle.udsnorm.specs.Under.{under_value};
 
-    ghost text = { λ line. hint_line line.0 (option_map (λ t. t.now) line.1) };
+    ghost text = { λ line. hint_line (option_map under_value line.under) line.matter (option_map (λ t. t.now) line.name) };
 
     fn say<S: TextSink>(self, out: &mut S) {
-        let HintLine(matter, name) = self;
+        let HintLine {
+            under,
+            matter,
+            name,
+        } = self;
         let log = LogName(name);
         match matter {
             Matter::Missing => say(out, ("hint: there is no file ", log, missing_words(name))),
@@ -36,7 +47,11 @@ impl<'a> Part for HintLine<'a> {
             Matter::Unread => say(out, ("hint: reading ", log, " failed\n")),
             Matter::NoPair => say(out, ("hint: nothing in ", log, NO_PAIR)),
             Matter::Foreign { tester, unit } => say(out, ForeignLine(tester, unit, name)),
-            Matter::Exchanged { tester, unit } => say(out, ExchangedLine(tester, unit, name)),
+            Matter::Exchanged { tester, unit } => {
+                let options = ExchangedOptions(tester, unit, name);
+                say(out, ExchangedLine { under, options })
+            }
+            Matter::NothingLeft => say(out, "hint: the rules leave nothing of either log\n"),
             Matter::Empty => say(out, ("hint: ", log, " is empty\n")),
             Matter::Refused(cause) => say(out, ("hint: ", RefusalCauseText(cause, log), "\n")),
             Matter::Dropped(count) => say(out, DroppedLine(count, name)),
@@ -50,10 +65,9 @@ struct ForeignLine<'a>(Id, Id, Option<&'a str>);
 
 impl<'a> Part for ForeignLine<'a> {
     ghost use Rattle.std.specs.Prelude.{option_map};
-    ghost use Rattle.udsnorm.specs.Hints.{hint_line};
-    ghost use Rattle.udsnorm.specs.declared.ended.Matter.TheVariants as matter;
+    ghost use Rattle.udsnorm.specs.Hints.{foreign_line};
 
-    ghost text = { λ line. hint_line (matter.Foreign line.0 line.1) (option_map (λ t. t.now) line.2) };
+    ghost text = { λ line. foreign_line line.0 line.1 (option_map (λ t. t.now) line.2) };
 
     fn say<S: TextSink>(self, out: &mut S) {
         let ForeignLine(tester, unit, name) = self;
@@ -74,30 +88,110 @@ impl<'a> Part for ForeignLine<'a> {
     }
 }
 
-/// The line about a log in which these two identifiers look exchanged.
+/// The line about a log in which two identifiers look exchanged.
 #[derive(Clone, Copy)]
-struct ExchangedLine<'a>(Id, Id, Option<&'a str>);
+struct ExchangedLine<'a> {
+    under: Option<Under<'a>>,
+    options: ExchangedOptions<'a>,
+}
 
 impl<'a> Part for ExchangedLine<'a> {
     ghost use Rattle.std.specs.Prelude.{option_map};
-    ghost use Rattle.udsnorm.specs.Hints.{hint_line};
-    ghost use Rattle.udsnorm.specs.declared.ended.Matter.TheVariants as matter;
+    ghost use Rattle.udsnorm.specs.Hints.{exchanged_line};
+    ghost use Rattle.udsnorm.specs.Under.{under_value};
 
-    ghost text = { λ line. hint_line (matter.Exchanged line.0 line.1) (option_map (λ t. t.now) line.2) };
+    ghost text = { λ line. exchanged_line (option_map under_value line.under) line.options.0 line.options.1 (option_map (λ t. t.now) line.options.2) };
 
     fn say<S: TextSink>(self, out: &mut S) {
-        let ExchangedLine(tester, unit, name) = self;
+        let ExchangedLine { under, options } = self;
         say(
             out,
             (
                 "hint: tester and unit look exchanged in ",
-                LogName(name),
-                ": udsnorm list --tester ",
+                LogName(options.2),
+                ": ",
+                Exchanging { under, options },
+                "\n",
+            ),
+        );
+    }
+}
+
+/// What exchanges two identifiers.
+#[derive(Clone, Copy)]
+struct Exchanging<'a> {
+    under: Option<Under<'a>>,
+    options: ExchangedOptions<'a>,
+}
+
+impl<'a> Part for Exchanging<'a> {
+    ghost use Rattle.std.specs.Prelude.{option_map};
+    ghost use Rattle.udsnorm.specs.Hints.{exchanging};
+    ghost use Rattle.udsnorm.specs.Under.{under_value};
+
+    ghost text = { λ line. exchanging (option_map under_value line.under) line.options.0 line.options.1 (option_map (λ t. t.now) line.options.2) };
+
+    fn say<S: TextSink>(self, out: &mut S) {
+        match self.under {
+            Some(under) => say(out, ExchangingUnder(under, self.options)),
+            None => say(out, ("udsnorm list", self.options)),
+        }
+    }
+}
+
+/// What exchanges them under a profile: options, where such stand beside it, and else other values in it.
+#[derive(Clone, Copy)]
+struct ExchangingUnder<'a>(Under<'a>, ExchangedOptions<'a>);
+
+impl<'a> Part for ExchangingUnder<'a> {
+    ghost use Rattle.std.specs.Prelude.{Some, option_map};
+    ghost use Rattle.udsnorm.specs.Hints.{exchanging};
+    ghost use Rattle.udsnorm.specs.Under.{under_value};
+
+    ghost text = { λ line. exchanging (Some (under_value line.0)) line.1.0 line.1.1 (option_map (λ t. t.now) line.1.2) };
+
+    fn say<S: TextSink>(self, out: &mut S) {
+        let ExchangingUnder(under, options) = self;
+        let file = Quoted(under.file.as_bytes());
+        if under.has_sides {
+            say(out, ("udsnorm list --profile=", file, options));
+        } else {
+            let ExchangedOptions(tester, unit, _) = options;
+            say(
+                out,
+                (
+                    "write tester = \"",
+                    Identifier(unit),
+                    "\" and unit = \"",
+                    Identifier(tester),
+                    "\" in ",
+                    file,
+                ),
+            );
+        }
+    }
+}
+
+/// The options that exchange these two identifiers, and the log behind them.
+#[derive(Clone, Copy)]
+struct ExchangedOptions<'a>(Id, Id, Option<&'a str>);
+
+impl<'a> Part for ExchangedOptions<'a> {
+    ghost use Rattle.std.specs.Prelude.{option_map};
+    ghost use Rattle.udsnorm.specs.Hints.{exchanged_options};
+
+    ghost text = { λ options. exchanged_options options.0 options.1 (option_map (λ t. t.now) options.2) };
+
+    fn say<S: TextSink>(self, out: &mut S) {
+        let ExchangedOptions(tester, unit, name) = self;
+        say(
+            out,
+            (
+                " --tester ",
                 Identifier(unit),
                 " --unit ",
                 Identifier(tester),
                 Behind(name),
-                "\n",
             ),
         );
     }
@@ -109,10 +203,9 @@ struct DroppedLine<'a>(u64, Option<&'a str>);
 
 impl<'a> Part for DroppedLine<'a> {
     ghost use Rattle.std.specs.Prelude.{option_map};
-    ghost use Rattle.udsnorm.specs.Hints.{hint_line};
-    ghost use Rattle.udsnorm.specs.declared.ended.Matter.TheVariants as matter;
+    ghost use Rattle.udsnorm.specs.Hints.{dropped_line};
 
-    ghost text = { λ line. hint_line (matter.Dropped line.0) (option_map (λ t. t.now) line.1) };
+    ghost text = { λ line. dropped_line line.0 (option_map (λ t. t.now) line.1) };
 
     fn say<S: TextSink>(self, out: &mut S) {
         let DroppedLine(count, name) = self;

@@ -1,18 +1,21 @@
 //! Hints: a line behind the text of a run, for the person at the terminal.
 
-ghost use Rattle.std.specs.Prelude.{◌≡◌, ◌<◌, IfOk, OnOk, IfErr, List, true, false, map, string_bytes};
+ghost use Rattle.std.specs.Prelude.{◌≡◌, ◌<◌, IfOk, OnOk, IfErr, List, true, false, map, option_map, string_bytes};
 ghost use Rattle.clap.specs.Words.{Text};
 ghost use Rattle.trace_io.specs.Counted.{IsLowCount};
-ghost use Rattle.udsnorm.specs.Commands.{words_or_normalise};
-ghost use Rattle.udsnorm.specs.Hints.{GaveHint, IsHint, ToldAwaited, asks_for_hints, awaited_line, hint_of_plan};
+ghost use Rattle.udsnorm.specs.Commands.{command_in, words_or_normalise};
+ghost use Rattle.udsnorm.specs.Hints.{GaveHint, IsHint, ToldAwaited, asks_for_hints, awaited_line, hint_line, hint_of_plan};
+ghost use Rattle.udsnorm.specs.Under.{under_in};
 ghost use Rattle.udsnorm.specs.Words.{IsPlanned};
 ghost use Rattle.udsnorm.specs.declared.profiled.SeenProfile.{SeenProfile};
 
 use crate::advice::advice_for;
-use crate::ended::{Known, Run, name_of};
+use crate::ended::{Known, Matter, Run, name_of};
 use crate::hint_lines::HintLine;
 use crate::job::{Plan, WordsFault};
 use crate::tell::tell_text;
+use crate::under::under_of;
+use crate::words::found;
 use line_text::line_in;
 use std::alloc::{AllocError, Global};
 use std::rt::Files;
@@ -81,17 +84,48 @@ fn hint_of<R: AllocGlobal + Files>(
     ensures { IfOk result (λ line. IsHint run.now.asked (map string_bytes words.now) run.now.end.known line.items) }
 {
     match &run.asked {
-        Ok(plan) => hint_of_plan(rt.alloc(), plan, run.end.known),
+        Ok(plan) => hint_of_plan(rt.alloc(), words, plan, run.end.known),
         Err(fault) => advice_for(rt, words, fault),
     }
 }
 
-/// The line of what is known of a plan that was carried out.
-fn hint_of_plan(alloc: Global, plan: &Plan, known: Option<Known>) -> Result<Vec<u8>, AllocError>
-    ensures { IfOk result (λ line. line.items ≡ hint_of_plan plan.now known) }
+/// The line of what is known of a plan of these words that was carried out.
+fn hint_of_plan(
+    alloc: Global,
+    words: &[String],
+    plan: &Plan,
+    known: Option<Known>,
+) -> Result<Vec<u8>, AllocError>
+    ensures { IfOk result (λ line. line.items ≡ hint_of_plan (under_in (command_in (words_or_normalise (map string_bytes words.now)))) plan.now known) }
 {
     match known {
-        Some(known) => line_in(alloc, HintLine(known.matter, name_of(plan, known.which))),
+        Some(known) => hint_of_log(alloc, words, known.matter, name_of(plan, known.which)),
         None => Ok(Vec::new(alloc)),
+    }
+}
+
+/// The line of what is known of a log. The parser took these words: that it does not now is that memory is refused.
+fn hint_of_log(
+    alloc: Global,
+    words: &[String],
+    matter: Matter,
+    name: Option<&str>,
+) -> Result<Vec<u8>, AllocError>
+    ensures { IfOk result (λ line. line.items
+        ≡ hint_line (under_in (command_in (words_or_normalise (map string_bytes words.now)))) matter (option_map (λ t. t.now) name.entry)) }
+{
+    match found(alloc, words) {
+        Ok(matches) => {
+            let under = under_of(&matches);
+            line_in(
+                alloc,
+                HintLine {
+                    under,
+                    matter,
+                    name,
+                },
+            )
+        }
+        Err(_) => Err(AllocError),
     }
 }

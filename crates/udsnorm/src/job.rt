@@ -44,9 +44,10 @@ pub enum WordsFault {
     /// There is no configuration of these identifiers and this limit.
     #[error("{0}")]
     Config(ConfigFault),
-    /// The words and their profile don't fit, or something is wrong in the profile. This is the line of that.
-    #[error("the profile is wrong")]
-    Profile(Vec<u8>),
+    /// Two of the options don't fit, or the options and their profile don't, or something is wrong in the profile. This is
+    /// the line of that.
+    #[error("the words or the profile don't fit")]
+    Misfit(Vec<u8>),
     /// The profile can't be opened, or reading it failed. This is the line of that.
     #[error("the profile can't be read")]
     Unread(Vec<u8>),

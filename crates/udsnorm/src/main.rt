@@ -25,7 +25,7 @@ ghost use Rattle.udsnorm.specs.Known.{knows_unopened};
 ghost use Rattle.udsnorm.specs.Opening.{opened, two_files};
 ghost use Rattle.udsnorm.specs.Hints.{asks_for_hints};
 ghost use Rattle.udsnorm.specs.Process.{Hinted, Served};
-ghost use Rattle.udsnorm.specs.Profiled.{IsSeen};
+ghost use Rattle.udsnorm.specs.Profiled.{IsSeenOf};
 ghost use Rattle.udsnorm.specs.Status.{status_of};
 ghost use Rattle.udsnorm.specs.Telling.{TookText};
 ghost use Rattle.udsnorm.specs.Words.{IsPlanned};
@@ -50,6 +50,7 @@ mod shown;
 mod stream;
 mod tell;
 mod text;
+mod under;
 mod values;
 mod words;
 
@@ -170,7 +171,7 @@ fn serve<R: AllocGlobal + Files + Opener, I: Read, W: Target, E: Target>(
 /// name of the profile, and then all else.
 fn read_words<R: AllocGlobal + Opener>(rt: &R, words: &[String]) -> Result<Plan, WordsFault>
     ensures asked { (seen : SeenProfile)
-        × IsSeen (R.says rt.now) ⟦<Noticing<R::Log> as Source>⟧ (command_in (words_or_normalise (map string_bytes words.now))) seen
+        × IsSeenOf (R.says rt.now) ⟦<Noticing<R::Log> as Source>⟧ (command_in (words_or_normalise (map string_bytes words.now))) seen
         × IsPlanned (words_or_normalise (map string_bytes words.now)) seen result }
 {
     let parsed = found(rt.alloc(), words);

@@ -13,9 +13,9 @@ pub(crate) struct LogName<'a>(pub Option<&'a str>);
 
 impl<'a> Part for LogName<'a> {
     ghost use Rattle.std.specs.Prelude.{option_map};
-    ghost use Rattle.udsnorm.specs.Names.{named};
+    ghost use Rattle.udsnorm.specs.Names.{log_name};
 
-    ghost text = { λ log. named (option_map (λ t. t.now) log.0) };
+    ghost text = { λ log. log_name (option_map (λ t. t.now) log.0) };
 
     fn say<S: TextSink>(self, out: &mut S) {
         match self.0 {

@@ -74,7 +74,7 @@ where
 }
 
 /// Why a file can't be opened, by the error.
-fn open_fault(error: &Error) -> OpenFault {
+pub(crate) fn open_fault(error: &Error) -> OpenFault {
     match error.kind() {
         ErrorKind::NotFound | ErrorKind::NotADirectory => OpenFault::Missing,
         ErrorKind::PermissionDenied => OpenFault::Denied,

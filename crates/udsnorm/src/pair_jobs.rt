@@ -366,6 +366,7 @@ fn write_page<W: Target>(
         right: right_name.as_bytes(),
         tester: config.tester(),
         unit: config.unit(),
+        rules: config.rules(),
     };
     match answer {
         Err(fault) if !is_refusal(fault_in(*fault)) => true,

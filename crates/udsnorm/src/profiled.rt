@@ -5,7 +5,7 @@ ghost use Rattle.std.specs.Io.KnownBytes.{IsAtEnd};
 ghost use Rattle.clap.specs.Words.{Text, found_of, rows_of, subcommand_rows_of};
 ghost use Rattle.trace_io.specs.Stream.{Gave};
 ghost use Rattle.udsnorm.specs.Commands.{command_in};
-ghost use Rattle.udsnorm.specs.Profiled.{IsApartFrom, IsSeen, IsSeenAt, IsSharedWith, WasRead, log_names};
+ghost use Rattle.udsnorm.specs.Profiled.{IsApartFrom, IsSeenOf, IsSeenAt, IsSharedWith, WasRead, log_names};
 ghost use Rattle.udsnorm.specs.Words.{AreParsedAs};
 
 use crate::commands::{LEFT, LOG, OTHER, PROFILE, RIGHT};
@@ -42,7 +42,7 @@ pub(crate) fn seen_profile<R: AllocGlobal + Opener>(
     rt: &R,
     parsed: &Result<ArgMatches<'_>, Error>,
 ) -> SeenProfile
-    ensures seen { (words : List Text) → AreParsedAs words parsed.now → IsSeen (R.says rt.now) ⟦<Noticing<R::Log> as Source>⟧ (command_in words) result }
+    ensures seen { (words : List Text) → AreParsedAs words parsed.now → IsSeenOf (R.says rt.now) ⟦<Noticing<R::Log> as Source>⟧ (command_in words) result }
 {
     match parsed {
         Ok(matches) => seen_of(rt, matches),
@@ -53,7 +53,7 @@ pub(crate) fn seen_profile<R: AllocGlobal + Opener>(
 
 /// Reads the profile of the command that the parser found.
 fn seen_of<R: AllocGlobal + Opener>(rt: &R, matches: &ArgMatches<'_>) -> SeenProfile
-    ensures { IsSeen (R.says rt.now) ⟦<Noticing<R::Log> as Source>⟧ (subcommand_rows_of matches.now) result }
+    ensures { IsSeenOf (R.says rt.now) ⟦<Noticing<R::Log> as Source>⟧ (subcommand_rows_of matches.now) result }
 {
     match matches.subcommand() {
         Some((_, found)) => match text_of(found, PROFILE) {

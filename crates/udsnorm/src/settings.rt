@@ -5,10 +5,12 @@ ghost use Rattle.asked_profile.specs.Choice.{chosen_of};
 ghost use Rattle.clap.specs.Words.{first_of, found_of, rows_of};
 ghost use Rattle.profile.specs.Answers.{profile_value, unit_value};
 ghost use Rattle.profile.specs.UnitKeys.{identifier_of};
-ghost use Rattle.udsnorm.specs.Configured.{IsConfigured, IsConfiguredAs, IsConfiguredBy, IsConfiguredIn, IsInOneStyle, IsOfBytes, IsOfChoice, IsOfProfile, IsOfSeen, IsOfSides, IsTold, IsToldUnread, IsWithout, asks_for_both, choice_line, line_about, side_beside, under_rules};
+ghost use Rattle.udsnorm.specs.Configured.{IsConfigured, IsConfiguredAs, IsConfiguredBy, IsConfiguredIn, IsConfiguredToAll, IsInOneStyle, IsOfBytes, IsOfChoice, IsOfProfile, IsOfSeen, IsOfSides, IsTold, IsToldUnread, IsWithout, asks_for_both, choice_line, line_about, side_beside, under_rules};
 ghost use Rattle.udsnorm.specs.Values.{limit_in};
 
-use crate::commands::{JSON, LIMIT, ONLY, PROFILE, TESTER, TOML, UNIT, USUAL_TESTER, USUAL_UNIT};
+use crate::commands::{
+    FUNCTIONAL, JSON, LIMIT, ONLY, PROFILE, TESTER, TOML, UNIT, USUAL_TESTER, USUAL_UNIT,
+};
 use crate::job::WordsFault;
 use crate::profiled::SeenProfile;
 use crate::values::{is_given, text_of};
@@ -130,6 +132,9 @@ fn side_beside(units: &[ControlUnit], found: &ArgMatches<'_>) -> Option<&'static
     if text_of(found, UNIT).is_some() {
         return Some(UNIT);
     }
+    if text_of(found, FUNCTIONAL).is_some() {
+        return Some(FUNCTIONAL);
+    }
     None
 }
 
@@ -176,7 +181,7 @@ fn of_sides(sides: Option<RunIdentifiers>, found: &ArgMatches<'_>) -> Result<Con
     ensures { IsOfSides sides (rows_of (found_of found.now)) result }
 {
     match sides {
-        Some(sides) => configured(sides.tester, sides.unit, limit(found)),
+        Some(sides) => configured(sides.tester, sides.unit, sides.functional, limit(found)),
         None => of_options(found),
     }
 }
@@ -187,7 +192,7 @@ fn of_options(found: &ArgMatches<'_>) -> Result<Config, WordsFault>
 {
     let tester = text_of(found, TESTER).unwrap_or(USUAL_TESTER);
     let unit = text_of(found, UNIT).unwrap_or(USUAL_UNIT);
-    spelled(tester, unit, limit(found))
+    spelled(tester, unit, text_of(found, FUNCTIONAL), limit(found))
 }
 
 /// The limit that the options ask for.
@@ -197,21 +202,50 @@ fn limit(found: &ArgMatches<'_>) -> u64
     found.get_one::<u64>(LIMIT).unwrap_or(0)
 }
 
-/// The configuration of the identifiers that two texts spell.
-fn spelled(tester: &str, unit: &str, limit: u64) -> Result<Config, WordsFault>
-    ensures { IsConfiguredBy (identifier_of tester.now) (identifier_of unit.now) limit result }
+/// The configuration of the identifiers that two texts spell, or three.
+fn spelled(
+    tester: &str,
+    unit: &str,
+    functional: Option<&str>,
+    limit: u64,
+) -> Result<Config, WordsFault>
+    ensures { IsConfiguredBy (identifier_of tester.now) (identifier_of unit.now)
+        (option_map identifier_of (option_map (λ t. t.now) functional.entry)) limit result }
 {
     let (Some(tester), Some(unit)) = (identifier_of(tester), identifier_of(unit)) else {
         return Err(WordsFault::Identifier);
     };
-    configured(tester, unit, limit)
+    match functional {
+        Some(functional) => spelled_to_all(tester, unit, identifier_of(functional), limit),
+        None => configured(tester, unit, None, limit),
+    }
 }
 
-/// The configuration of two identifiers.
-fn configured(tester: Id, unit: Id, limit: u64) -> Result<Config, WordsFault>
-    ensures { IsConfiguredAs tester unit limit result }
+/// The same where a text is to spell the identifier of functional requests.
+fn spelled_to_all(
+    tester: Id,
+    unit: Id,
+    functional: Option<Id>,
+    limit: u64,
+) -> Result<Config, WordsFault>
+    ensures { IsConfiguredToAll tester unit functional limit result }
 {
-    Config::new(tester, unit, limit).map_err(WordsFault::Config)
+    match functional {
+        Some(functional) => configured(tester, unit, Some(functional), limit),
+        None => Err(WordsFault::Identifier),
+    }
+}
+
+/// The configuration of these identifiers.
+fn configured(
+    tester: Id,
+    unit: Id,
+    functional: Option<Id>,
+    limit: u64,
+) -> Result<Config, WordsFault>
+    ensures { IsConfiguredAs tester unit functional limit result }
+{
+    Config::of_session(tester, unit, functional, limit).map_err(WordsFault::Config)
 }
 
 // ---- what is told
@@ -261,7 +295,7 @@ fn told<P: Part>(alloc: Global, part: P) -> WordsFault
     ensures { IsTold (P.text part) result }
 {
     match line_in(alloc, part) {
-        Ok(line) => WordsFault::Profile(line),
+        Ok(line) => WordsFault::Misfit(line),
         Err(_) => WordsFault::Memory,
     }
 }

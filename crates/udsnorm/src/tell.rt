@@ -28,7 +28,7 @@ pub fn tell<W: Target, E: Target>(fault: &WordsFault, out: &mut W, err: &mut E) 
         WordsFault::Words(_)
         | WordsFault::Identifier
         | WordsFault::Config(_)
-        | WordsFault::Profile(_) => {
+        | WordsFault::Misfit(_) => {
             tell_text(text, err);
             2
         }

@@ -5,7 +5,7 @@ use Rattle.std.proofs.lemmas.Bool.{and_parts, eqb-false, eqb-true, not-true}
 use Rattle.trace_log.specs.declared.fault.CompareFault.{CompareFault}
 use Rattle.trace_log.specs.declared.fault.CompareFault.TheVariants.{Left, Right}
 use Rattle.trace_log.specs.declared.fault.ConfigFault.{ConfigFault}
-use Rattle.trace_log.specs.declared.fault.ConfigFault.TheVariants.{IdRange, SameId, LimitRange}
+use Rattle.trace_log.specs.declared.fault.ConfigFault.TheVariants.{IdRange, SameId, SameFunctional, LimitRange}
 use Rattle.trace_log.specs.declared.fault.Fault.{Fault}
 use Rattle.trace_log.specs.declared.fault.Fault.TheVariants.{BadLine, Oversize, LogLimit, OutputLimit, Read, Write, Memory}
 use Rattle.trace_pair.specs.declared.in_memory.NoPairPage.{NoPairPage}
@@ -22,6 +22,7 @@ has_no_text answer = (answer.clean == 0) && (not (answer.status == 0) && not (an
 pub of_refusal : (fault : ConfigFault) → has_no_text (refusal_of fault) ≡ true
 of_refusal IdRange = refl
 of_refusal SameId = refl
+of_refusal SameFunctional = refl
 of_refusal LimitRange = refl
 
 -- nor has one where there is no configuration

@@ -9,7 +9,7 @@ use Rattle.trace_log.specs.declared.fault.CompareFault.TheVariants.{Left, Right}
 use Rattle.trace_log.specs.declared.fault.Fault.{Fault}
 use Rattle.trace_log.specs.declared.fault.Fault.TheVariants.{BadLine, Oversize, LogLimit, OutputLimit, Read, Write, Memory}
 use Rattle.trace_log.specs.declared.fault.ConfigFault.{ConfigFault}
-use Rattle.trace_log.specs.declared.fault.ConfigFault.TheVariants.{IdRange, SameId, LimitRange}
+use Rattle.trace_log.specs.declared.fault.ConfigFault.TheVariants.{IdRange, SameId, SameFunctional, LimitRange}
 use Rattle.trace_log.specs.declared.summary.Summary.{Summary}
 use Rattle.trace_canon.specs.InMemory.{IsCanonicalLogWith, IsListWith, AreMessageLinesWith, IsExplanationWith, AreCreditLinesWith, IsRefused, IsUnread, NeedsMemoryForCanonicalLog, NeedsMemoryForList, NeedsMemoryForMessageLines, NeedsMemoryForExplanation, NeedsMemoryForCreditLines, ComparesWithCounts}
 use Rattle.trace_difference.specs.InMemory.{HasNoDifferenceText, IsDifferenceWith}
@@ -56,6 +56,7 @@ status_alone status = record {
 abbrev pub refusal_of : ConfigFault → UdsnormAnswer
 refusal_of IdRange = status_alone 1
 refusal_of SameId = status_alone 2
+refusal_of SameFunctional = status_alone 2
 refusal_of LimitRange = status_alone 3
 
 -- the answer where something is wrong in a profile, at this line of it, or at 0, of which a text of this length tells

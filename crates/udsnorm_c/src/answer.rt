@@ -134,7 +134,8 @@ pub(crate) fn refusal_of(fault: ConfigFault) -> UdsnormAnswer
 {
     status_alone(match fault {
         ConfigFault::IdRange => ID_RANGE,
-        ConfigFault::SameId => SAME_ID,
+        // A profile with such a unit is refused before, and no call is handed one.
+        ConfigFault::SameId | ConfigFault::SameFunctional => SAME_ID,
         ConfigFault::LimitRange => LIMIT_RANGE,
     })
 }

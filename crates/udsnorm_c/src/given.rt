@@ -90,19 +90,32 @@ fn config_under(alloc: Global, given: Given<'_>, profile: Profile) -> Result<Con
                 rules,
                 identifier(given.tester),
                 identifier(given.unit),
+                None,
                 given.limit,
             )
         }
-        Ok(Some(sides)) => under(rules, sides.tester, sides.unit, given.limit),
+        Ok(Some(sides)) => under(
+            rules,
+            sides.tester,
+            sides.unit,
+            sides.functional,
+            given.limit,
+        ),
         Err(fault) => Err(refused_choice(alloc, units.as_slice(), given.only, fault)),
     }
 }
 
-/// The configuration of two identifiers and a limit under rules.
-fn under(rules: Rules, tester: Id, unit: Id, limit: u64) -> Result<Config, NoConfig>
-    ensures { ConfiguresUnder rules tester unit limit result }
+/// The configuration of these identifiers and a limit under rules.
+fn under(
+    rules: Rules,
+    tester: Id,
+    unit: Id,
+    functional: Option<Id>,
+    limit: u64,
+) -> Result<Config, NoConfig>
+    ensures { ConfiguresUnder rules tester unit functional limit result }
 {
-    match Config::new(tester, unit, limit) {
+    match Config::of_session(tester, unit, functional, limit) {
         Ok(config) => Ok(config.with_rules(rules)),
         Err(fault) => Err(NoConfig::Config(fault)),
     }

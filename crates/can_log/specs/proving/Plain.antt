@@ -8,9 +8,9 @@ use Rattle.std.specs.Int.{trailing_zeros, w64}
 use lib.Lanes.{mask_l}
 use Rattle.std.specs.Borrow.{Bor}
 use Rattle.can_log.specs.declared.plain.Fields.{Fields}
-use Rattle.can_log.specs.declared.plain.Told.{Told}
-use Rattle.can_log.specs.declared.plain.PlainBody.{PlainBody}
-use Rattle.can_log.specs.declared.plain.PlainEnding.{PlainEnding}
+use Rattle.can_log.specs.declared.lanes.Told.{Told}
+use Rattle.can_log.specs.declared.plain_fields.PlainBody.{PlainBody}
+use Rattle.can_log.specs.declared.plain_fields.PlainEnding.{PlainEnding}
 use Rattle.can_log.specs.declared.field.Class.TheVariants.{Visible}
 use Rattle.can_log.specs.proving.FieldReader.{is_in}
 use Rattle.can_log.specs.Line.{LineSpelling, identifier_of, spell_mark, IsRunOf, IsIdentifierText, IsDataText, IsMark, Body, classic, fd}

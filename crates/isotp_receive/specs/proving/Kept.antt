@@ -1,6 +1,6 @@
 -- A device of proof: a reception as the code keeps it, its head apart from its bytes.
 use Rattle.std.specs.Prelude.{ℕ, ◌<◌, ◌≤◌, List, length, Option, Some, None}
-use Rattle.isotp_receive.specs.declared.reception.Head.{Head}
+use Rattle.isotp_receive.specs.declared.head.Head.{Head}
 use Rattle.isotp_receive.specs.declared.reception.FrameFit.{FrameFit}
 use Rattle.isotp_receive.specs.declared.reception.FrameFit.TheVariants as as_fit
 use Rattle.isotp_receive.specs.Fit.{Fit, late, wrong_number, wrong_length, one_more, last}

@@ -2,13 +2,15 @@
 -- only through the laws that join it to what stands after a trace. It stays since each function of the code takes one step,
 -- and what a step does to a whole list is proved once (`proofs/OneMore.antt`), and not by each of them.
 use Rattle.std.specs.Prelude.{ℕ, ◌+◌, List, ◌++◌, nat_le, ◌==◌, if◌then◌else◌, Option, Some, None, Result}
+use Rattle.direction.specs.Dir.{other_direction}
 use Rattle.direction.specs.declared.Dir.{Dir}
 use Rattle.direction.specs.declared.Dir.TheVariants.{Tester, Unit}
 use Rattle.isotp_pdu.specs.Layout.{Layout}
-use Rattle.isotp_pdu.specs.declared.PduFault.{PduFault}
+use Rattle.isotp_receive.specs.declared.event.Reason.{Reason}
 use Rattle.isotp_receive.specs.Fit.{Fit, late, wrong_number, wrong_length, one_more, last}
 use Rattle.isotp_receive.specs.Trace.{FirstFrame, FrameRole, single, first, consecutive, continue_or_wait, overflow, no_part, own_role, other_role}
-use Rattle.isotp_receive.specs.StandingReception.{StandingReception, fit_of, Receptions}
+use Rattle.isotp_receive.specs.StandingReception.{StandingReception, fit_of, of_direction, Receptions}
+use Rattle.isotp_receive.specs.Verdict.{EventValue, on_layout}
 
 -- a reception that stands, after a consecutive frame that fits so
 abbrev pub continued_by : Fit → StandingReception → ℕ → List ℕ → Option StandingReception
@@ -56,7 +58,7 @@ after limit standing micros overflow = continue standing micros overflow
 after limit standing micros no_part = standing
 
 -- both after one more frame of this layout or fault
-abbrev pub both_after : ℕ → Receptions → ℕ → ℕ → Dir → Result Layout PduFault → Receptions
+abbrev pub both_after : ℕ → Receptions → ℕ → ℕ → Dir → Result Layout Reason → Receptions
 both_after limit both line micros Tester layout = record {
   tester = after limit both.tester micros (own_role line micros layout);
   unit = after limit both.unit micros (other_role layout);
@@ -70,3 +72,8 @@ both_after limit both line micros Unit layout = record {
 abbrev pub without : Receptions → Dir → Receptions
 without both Tester = record both { tester = None }
 without both Unit = record both { unit = None }
+
+-- what a frame of the direction with this layout or fault does where both stand so
+abbrev pub event_on : ℕ → Receptions → Dir → ℕ → Result Layout Reason → EventValue
+event_on limit both d micros layout =
+    on_layout limit d (of_direction both d) (of_direction both (other_direction d)) micros layout

@@ -5,7 +5,7 @@ use Rattle.isotp_receive.specs.declared.TheConstants.{MESSAGE_LIMIT}
 use Rattle.isotp_segment.specs.CanonicalFrames.{frame_count}
 
 -- the message has `count` frames, of which the first `number` were given
-pub record AreGiven (message : List ℕ) (count number : ℕ) : Type 0 where
+pub record HasGiven (message : List ℕ) (count number : ℕ) : Type 0 where
   pub some : 1 ≤ length message
   pub limit : length message ≤ MESSAGE_LIMIT
   pub counted : count ≡ frame_count (length message)

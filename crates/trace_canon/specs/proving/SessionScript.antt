@@ -41,8 +41,8 @@ pub record Collects (settings : Settings) (M : List Message) (collected : Option
   pub kept : IsCollectedOf settings.max_bytes (meaning M) size collected
 
 -- This is kept of the frames T: what their messages mean under these rules, and of how many of these each rule spoke.
-pub record CollectsSession (rules : List RuleValue) (settings : Settings) (T : List Entry) (collected : Option Collected) (config : Settings) (spoken : List ℕ)
-    : Type 0 where
+pub record CollectsSession (rules : List RuleValue) (settings : Settings) (T : List Entry) (collected : Option Collected)
+    (config : Settings) (spoken : List ℕ) : Type 0 where
   pub collects : Collects settings (messages_under rules MESSAGE_LIMIT T) collected config
   pub ruled : config.rules ≡ rules
   pub counted : spoken ≡ spoken_counts rules (messages MESSAGE_LIMIT T)

@@ -1,6 +1,5 @@
 -- Devices of proof: what is received of a log: receptions, lines and counts.
 use Rattle.std.specs.Prelude.{◌≡◌, ℕ, ◌+◌, List, [], length, Option}
-use Rattle.direction.specs.declared.Dir.{Dir}
 use Rattle.can_log.specs.declared.frame.Stamped.{Stamped}
 use Rattle.isotp_receive.specs.declared.TheConstants.{MESSAGE_LIMIT}
 use Rattle.isotp_receive.specs.Capacities.{PairValue, new_pair, KeepsWithin}
@@ -10,6 +9,7 @@ use Rattle.trace_log.specs.declared.summary.Summary.{Summary}
 use Rattle.trace_log.specs.Settings.{Settings}
 use Rattle.trace_log.specs.Summing.{counted_in}
 use Rattle.trace_log.specs.Trace.{trace}
+use Rattle.isotp_receive.specs.declared.channel.Channel.{Channel}
 
 -- the receptions and the counts before the first line
 pub record IsStart (pair : PairValue) (lines : ℕ) (counts : Summary) : Type 0 where
@@ -30,10 +30,10 @@ pub record Receives (settings : Settings) (meanings : List (Option Stamped)) (pa
   pub lines_are : lines ≡ length meanings
   pub counted : counts ≡ counted_in MESSAGE_LIMIT (trace settings meanings)
 
--- the entry of a frame of a direction, in this line
-abbrev pub entry_at : ℕ → Stamped → Dir → Entry
-entry_at line stamped d = record { line = line; micros = stamped.micros; dir = d; frame = stamped.frame }
+-- the entry of a frame on a channel, in this line
+abbrev pub entry_at : ℕ → Stamped → Channel → Entry
+entry_at line stamped channel = record { line = line; micros = stamped.micros; channel = channel; frame = stamped.frame }
 
 -- the same after lines that mean this
-abbrev pub entry_in : List (Option Stamped) → Stamped → Dir → Entry
-entry_in meanings stamped d = entry_at (1 + length meanings) stamped d
+abbrev pub entry_in : List (Option Stamped) → Stamped → Channel → Entry
+entry_in meanings stamped channel = entry_at (1 + length meanings) stamped channel

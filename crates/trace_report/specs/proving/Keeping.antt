@@ -1,5 +1,6 @@
 -- Devices of proof: the rows of a session as they are kept, and where its items stand among them.
-use Rattle.std.specs.Prelude.{◌≡◌, ℕ, ◌+◌, zero, suc, ⊤, Bool, true, false, List, [], ◌∷◌, ◌++◌, length, map, Option, Some, None, option_map, slice_get, if◌then◌else◌}
+use Rattle.std.specs.Prelude.{◌≡◌, ℕ, ◌+◌, zero, suc, ⊤, Bool, true, false, List, [], ◌∷◌, ◌++◌, length}
+use Rattle.std.specs.Prelude.{map, Option, Some, None, option_map, slice_get, if◌then◌else◌}
 use Rattle.uds_exchange.specs.Blocks.{IsInside, bytes_at}
 use Rattle.trace_report.specs.Items as Items
 use Rattle.trace_report.specs.Items.{RowMessageValue, PlacedItemValue, items_in, message_in}
@@ -54,7 +55,7 @@ part_by role.Stray sent = begins sent
 -- what a row is to items
 abbrev pub part_of : RowValue → RowPart
 part_of (message is d place bytes) = part_by is (record { role = is; dir = d; place = place; bytes = bytes })
-part_of (no_answer number silent) = nothing
+part_of (no_answer number silence) = nothing
 part_of (dropped place d linked why) = nothing
 part_of (ended place end) = nothing
 part_of (unfinished d line len) = nothing
@@ -204,7 +205,7 @@ waiting_by role.Stray places waiting = waiting
 -- the places of items with this row, which stands at this place
 abbrev pub places_next : RowValue → List ItemPlace → Option ℕ → ℕ → List ItemPlace
 places_next (message is d place bytes) places waiting at = places_by is places waiting at
-places_next (no_answer number silent) places waiting at = places
+places_next (no_answer number silence) places waiting at = places
 places_next (dropped place d linked why) places waiting at = places
 places_next (ended place end) places waiting at = places
 places_next (unfinished d line len) places waiting at = places
@@ -212,7 +213,7 @@ places_next (unfinished d line len) places waiting at = places
 -- the item that waits after this row
 abbrev pub waiting_next : RowValue → List ItemPlace → Option ℕ → Option ℕ
 waiting_next (message is d place bytes) places waiting = waiting_by is places waiting
-waiting_next (no_answer number silent) places waiting = waiting
+waiting_next (no_answer number silence) places waiting = waiting
 waiting_next (dropped place d linked why) places waiting = waiting
 waiting_next (ended place end) places waiting = waiting
 waiting_next (unfinished d line len) places waiting = waiting

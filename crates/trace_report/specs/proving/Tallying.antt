@@ -18,6 +18,7 @@ counts_with sort.Pendings counts = record counts { pendings = one_more counts.pe
 counts_with sort.KeepAlives counts = record counts { keep_alives = one_more counts.keep_alives }
 counts_with sort.Strays counts = record counts { strays = one_more counts.strays }
 counts_with sort.Unanswered counts = record counts { unanswered = one_more counts.unanswered }
+counts_with sort.ToAllUnits counts = record counts { to_all_units = one_more counts.to_all_units }
 counts_with sort.Silent counts = record counts { silent = one_more counts.silent }
 counts_with sort.Dropped counts = record counts { dropped = one_more counts.dropped }
 counts_with sort.Ended counts = record counts { ended = one_more counts.ended }
@@ -39,4 +40,5 @@ first_with sort.Requests target first = first
 first_with sort.Positives target first = first
 first_with sort.Pendings target first = first
 first_with sort.KeepAlives target first = first
+first_with sort.ToAllUnits target first = first
 first_with sort.Silent target first = first

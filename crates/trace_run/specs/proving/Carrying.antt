@@ -20,7 +20,7 @@ abbrev pub blank_sheet : Bool → Sheet
 blank_sheet failed = record { gathered = []; failed = failed }
 
 -- Since this start, this was said to a sheet, which may hold some of it.
-pub record Carries {W : Type 0} (target : Ghosts W) (start : W) (said : List ℕ) (sheet : Sheet) (now : W) : Type 0 where
+pub record HasSaid {W : Type 0} (target : Ghosts W) (start : W) (said : List ℕ) (sheet : Sheet) (now : W) : Type 0 where
   pub low : target.failures start ≤ 2 ^ 62
   -- something was said where something is gathered, and where writing failed
   pub gathered_some : 0 < length sheet.gathered → 0 < length said
@@ -36,20 +36,20 @@ pub record Carries {W : Type 0} (target : Ghosts W) (start : W) (said : List ℕ
 -- whatever was said to a sheet before, this text was said to it after it
 abbrev pub Says : {W : Type 0} → Ghosts W → Sheet → W → List ℕ → Sheet → W → Type 0
 Says {W = W} target sheet old text sheet_now new =
-    (start : W) (said : List ℕ) → Carries target start said sheet old → Carries target start (said ++ text) sheet_now new
+    (start : W) (said : List ℕ) → HasSaid target start said sheet old → HasSaid target start (said ++ text) sheet_now new
 
 -- whatever was said to a sheet before is written now, or that failed, as is answered
 abbrev pub Settles : {W : Type 0} → Ghosts W → Sheet → W → Bool → W → Type 0
 Settles {W = W} target sheet old result new =
-    (start : W) (said : List ℕ) → Carries target start said sheet old → Carries target start said (blank_sheet (not result)) new
+    (start : W) (said : List ℕ) → HasSaid target start said sheet old → HasSaid target start said (blank_sheet (not result)) new
 
 -- whatever was said to a sheet before, the target has what it had at any time, and more behind it
 abbrev pub WritesOn : {W : Type 0} → Ghosts W → Sheet → W → W → Type 0
 WritesOn {W = W} target sheet old new =
-    (mid : W) (said : List ℕ) → Carries target mid said sheet old
+    (mid : W) (said : List ℕ) → HasSaid target mid said sheet old
     → (more : List ℕ) × (target.taken new ≡ target.taken mid ++ more)
 
 -- whatever was said to a sheet before, no more was said to it
 abbrev pub SaysNoMore : {W : Type 0} → Ghosts W → Sheet → W → Sheet → W → Type 0
 SaysNoMore {W = W} target sheet old sheet_now new =
-    (start : W) (said : List ℕ) → Carries target start said sheet old → Carries target start said sheet_now new
+    (start : W) (said : List ℕ) → HasSaid target start said sheet old → HasSaid target start said sheet_now new

@@ -15,29 +15,29 @@ use Rattle.trace_run.specs.declared.machine.NoAnswer.{NoAnswer}
 use Rattle.trace_run.specs.declared.machine.NoAnswer.TheVariants as no_answer
 use Rattle.trace_run.specs.declared.sheet.Sheet.{Sheet}
 use Rattle.trace_run.specs.declared.receiver.Receiver.{Receiver}
-use Rattle.trace_run.specs.proving.Carrying.{Carries, WritesOn, blank_sheet}
+use Rattle.trace_run.specs.proving.Carrying.{HasSaid, WritesOn, blank_sheet}
 use Rattle.trace_run.specs.proving.Ruling.{HasJudged}
 use Rattle.trace_run.specs.proving.Telling.{Start, HasTold}
 
 module _ {W : Type 0} (target : TargetGhosts W) where
   -- since this start this was said, and is written before the fault with this name; or that failed, which is then the
   -- fault
-  abbrev pub EndsAs : Fault → W → List ℕ → Fault → W → Type 0
-  EndsAs name start said result new =
-      ((result ≡ name) × Carries target start said (blank_sheet false) new)
-      ⊎ ((result ≡ fault.Write) × Carries target start said (blank_sheet true) new)
+  abbrev pub EndsOn : Fault → W → List ℕ → Fault → W → Type 0
+  EndsOn name start said result new =
+      ((result ≡ name) × HasSaid target start said (blank_sheet false) new)
+      ⊎ ((result ≡ fault.Write) × HasSaid target start said (blank_sheet true) new)
 
   -- whatever was said to a sheet before the fault with this name is written before it; or that failed, which is then
   -- the fault
   abbrev pub SettlesAs : Fault → Sheet → W → Fault → W → Type 0
   SettlesAs name sheet old result new =
-      (start : W) (said : List ℕ) → Carries target start said sheet old → EndsAs name start said result new
+      (start : W) (said : List ℕ) → HasSaid target start said sheet old → EndsOn name start said result new
 
   -- whatever was said to a sheet before the fault with this name is written before it, with this text behind it; or
   -- that failed
   abbrev pub SettlesWith : List ℕ → Fault → Sheet → W → Fault → W → Type 0
   SettlesWith text name sheet old result new =
-      (start : W) (said : List ℕ) → Carries target start said sheet old → EndsAs name start (said ++ text) result new
+      (start : W) (said : List ℕ) → HasSaid target start said sheet old → EndsOn name start (said ++ text) result new
 
 -- How a run ends on a fault, where this is then seen of its source.
 module _ {A M W : Type 0} (machine : MachineGhosts M A) (target : TargetGhosts W) (glimpse : GlimpseValue) where
@@ -77,13 +77,13 @@ module _ {A M W : Type 0} (machine : MachineGhosts M A) (target : TargetGhosts W
   EndsAnswering result new =
       machine.answers start.rules start.machine (trace settings meanings) (summary_of MESSAGE_LIMIT settings log meanings)
       result
-      × Carries target start.target whole_since (blank_sheet false) new
+      × HasSaid target start.target whole_since (blank_sheet false) new
 
   -- with that answer, or because writing failed
   abbrev pub EndsSaying : Result A Fault → W → Type 0
   EndsSaying (Ok value) new = EndsAnswering (Ok value) new
   EndsSaying (Err fault.OutputLimit) new = EndsAnswering (Err no_answer.OutputLimit) new
-  EndsSaying (Err fault.Write) new = Carries target start.target whole_since (blank_sheet true) new
+  EndsSaying (Err fault.Write) new = HasSaid target start.target whole_since (blank_sheet true) new
   EndsSaying (Err fault.Read) new = ⊥
   EndsSaying (Err fault.Memory) new = ⊥
   EndsSaying (Err fault.LogLimit) new = ⊥

@@ -1,10 +1,10 @@
 -- Devices of proof: what a receiver has taken of the lines of a log since its run began, and where it stopped.
 use Rattle.std.specs.Prelude.{◌≡◌, ◌^◌, ◌≤◌, Bool, List, Option, Some}
 use Rattle.can_log.specs.declared.frame.Stamped.{Stamped}
-use Rattle.direction.specs.declared.Dir.{Dir}
+use Rattle.isotp_receive.specs.declared.channel.Channel.{Channel}
 use Rattle.trace_io.specs.declared.device.Target.{Ghosts as TargetGhosts}
 use Rattle.trace_log.specs.Feeding.{Took, Stopped}
-use Rattle.trace_log.specs.Settings.{Settings, direction_of}
+use Rattle.trace_log.specs.Settings.{Settings, channel_by}
 use Rattle.trace_log.specs.Trace.{trace}
 use Rattle.trace_log.specs.declared.fault.Fault.{Fault}
 use Rattle.trace_log.specs.proving.Receiving.{Receives, IsStart, entry_in}
@@ -45,14 +45,14 @@ module _ {A M W : Type 0} (machine : MachineGhosts M A) (target : TargetGhosts W
     pub fresh : HasToldNothing machine settings.rules machine_start begun.receiver.telling
     pub low : target.failures begun.target ≤ 2 ^ 62
 
-  -- The line behind those that mean this means `what`, it has a frame of a side, and there the run stopped.
+  -- The line behind those that mean this means `what`, it has a frame of a channel, and there the run stopped.
   pub record StopsAtFrame (settings : Settings) (start : Start M W) (meanings : List (Option Stamped))
       (what : Option Stamped) (why : Fault) (now : RunState M W) : Type 0 where
     pub stamped : Stamped
-    pub dir : Dir
+    pub channel : Channel
     pub means : what ≡ Some stamped
-    pub direction : Some dir ≡ direction_of settings stamped.frame.id
-    pub stopped : HasStopped machine target start (trace settings meanings) (entry_in meanings stamped dir) why
+    pub found : Some channel ≡ channel_by settings stamped.frame.id
+    pub stopped : HasStopped machine target start (trace settings meanings) (entry_in meanings stamped channel) why
         now.receiver.telling now.target
 
   -- The four words below, of which the five members of a taker of lines are made, say what is so where a run began

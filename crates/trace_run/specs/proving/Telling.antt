@@ -1,10 +1,9 @@
 -- Devices of proof: a machine was told the frames of a trace, and is told one more.
 use Rattle.std.specs.Prelude.{◌≡◌, ℕ, ◌⊎◌, Bool, true, false, List, [], ◌∷◌, ◌++◌, Option, Some, None, Result, OnOk, IfErr}
 use Rattle.std.specs.List.{AllByRecursion}
-use Rattle.isotp_pdu.specs.Reading.{layout_of}
 use Rattle.isotp_receive.specs.declared.TheConstants.{MESSAGE_LIMIT}
 use Rattle.isotp_receive.specs.Events.{oversize_in, too_long_in}
-use Rattle.isotp_receive.specs.Trace.{Entry}
+use Rattle.isotp_receive.specs.Trace.{Entry, layout_in}
 use Rattle.isotp_receive.specs.Verdict.{VerdictValue}
 use Rattle.trace_io.specs.declared.device.Target.{Ghosts as TargetGhosts}
 use Rattle.trace_log.specs.Needing.{IsKeptOrMasked}
@@ -18,7 +17,7 @@ use Rattle.trace_run.specs.Seen.{IsEventOf}
 use Rattle.trace_run.specs.declared.machine.Machine.{Ghosts as MachineGhosts}
 use Rattle.trace_run.specs.declared.telling.FrameEvent.{FrameEvent}
 use Rattle.trace_run.specs.declared.telling.Telling.{Telling}
-use Rattle.trace_run.specs.proving.Carrying.{Carries, blank_sheet}
+use Rattle.trace_run.specs.proving.Carrying.{HasSaid, blank_sheet}
 use Rattle.trace_run.specs.proving.Ruling.{HasJudged}
 
 -- the announced length for which a run stops at a frame that did this, where it is strict
@@ -29,7 +28,7 @@ oversize_for false did = None
 -- why a run stopped at the frame e
 abbrev pub StopsFor : Bool → List RuleValue → Needing → List Entry → Entry → Fault → Type 0
 StopsFor strict rules needs T e (fault.Oversize line announced) =
-    (strict ≡ true) × (line ≡ e.line) × (oversize_in MESSAGE_LIMIT (layout_of e.frame) ≡ Some announced)
+    (strict ≡ true) × (line ≡ e.line) × (oversize_in MESSAGE_LIMIT (layout_in e) ≡ Some announced)
 StopsFor strict rules needs T e fault.Memory =
     (strict ≡ true → AnnouncesWithin e) × (IsKeptOrMasked MESSAGE_LIMIT rules T e ⊎ needs T e)
 StopsFor strict rules needs T e (fault.BadLine line column) = ⊥
@@ -38,9 +37,9 @@ StopsFor strict rules needs T e fault.OutputLimit = ⊥
 StopsFor strict rules needs T e fault.Read = ⊥
 StopsFor strict rules needs T e fault.Write = ⊥
 
--- this is what the frame e did after the frames T: `IsEventOf` of an event with its line, time and direction beside it
+-- this is what the frame e did after the frames T: `IsEventOf` of an event with its line, time and channel beside it
 abbrev pub IsFrameEvent : List Entry → Entry → FrameEvent → Type 0
-IsFrameEvent T e frame = IsEventOf T e frame.line frame.micros frame.dir frame.event
+IsFrameEvent T e frame = IsEventOf T e frame.line frame.micros frame.channel frame.event
 
 -- A machine and a target as they were: since then frames are told to the one under these rules, and their text is
 -- written to the other.
@@ -80,7 +79,7 @@ module _ {A M W : Type 0} (machine : MachineGhosts M A) (target : TargetGhosts W
     pub judged : HasJudged start.rules T telling.judge telling.ruling.left_out
     pub machine_stands : machine.stands start.rules start.machine T telling.machine
     pub within : AreWithin machine start.rules start.machine T
-    pub carried : Carries target start.target (said_since machine start.rules start.machine T) telling.sheet now
+    pub carried : HasSaid target start.target (said_since machine start.rules start.machine T) telling.sheet now
 
   -- the frames of the trace were told, and all that was said of them is written, or writing failed
   abbrev pub HasToldAndWritten : Start M W → List Entry → Telling M → Bool → W → Type 0
@@ -92,7 +91,7 @@ module _ {A M W : Type 0} (machine : MachineGhosts M A) (target : TargetGhosts W
     pub mid : W
     pub said : List ℕ
     pub wrote : target.taken mid ≡ target.taken start.target ++ said_since machine start.rules start.machine T
-    pub carried : Carries target mid said telling.sheet now
+    pub carried : HasSaid target mid said telling.sheet now
 
   -- The frames of the trace were told, and the run stopped at the frame e, of which nothing was said.
   pub record HasStopped (start : Start M W) (T : List Entry) (e : Entry) (why : Fault) (telling : Telling M) (now : W)
@@ -100,7 +99,7 @@ module _ {A M W : Type 0} (machine : MachineGhosts M A) (target : TargetGhosts W
     pub within : AreWithin machine start.rules start.machine T
     pub reason :
         StopsFor (machine.script start.rules start.machine).strict start.rules (machine.needs start.rules start.machine) T e why
-    pub carried : Carries target start.target (said_since machine start.rules start.machine T) telling.sheet now
+    pub carried : HasSaid target start.target (said_since machine start.rules start.machine T) telling.sheet now
 
   -- What is due was written before more is read, or that failed, as `settled` answers.
   pub record SettlesTold (before : Telling M) (old : W) (settled : Bool) (after : Telling M) (new : W) : Type 0 where

@@ -12,4 +12,5 @@ Becomes (exchange request None) later = IsBegunBy request later
 -- each of these items is, or has become, that in its place among the others
 abbrev pub EachBecomes : List ItemValue → List ItemValue → Type 0
 EachBecomes items later =
-    (place : ℕ) (item : ItemValue) → slice_get items place ≡ Some item → (now : ItemValue) × (slice_get later place ≡ Some now) × Becomes item now
+    (place : ℕ) (item : ItemValue) → slice_get items place ≡ Some item
+    → (now : ItemValue) × (slice_get later place ≡ Some now) × Becomes item now

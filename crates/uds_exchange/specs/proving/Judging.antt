@@ -26,14 +26,14 @@ number_in step.Removed judge = judge.items - judge.held_count
 number_in step.Hold judge = one_more judge.items
 number_in step.Pass judge = one_more judge.items
 
--- what tells whether tester and unit are exchanged, with one more message that is no request
+-- what tells whether tester and unit are swapped, with one more message that is no request
 abbrev pub noted_other : Message → Sides → Sides
 noted_other message sides = record sides {
   tester_responds = sides.tester_responds || is_tester_response message;
   unit_sends_other = sides.unit_sends_other || is_unit_non_response message;
 }
 
--- what tells whether tester and unit are exchanged, with any one more message
+-- what tells whether tester and unit are swapped, with any one more message
 abbrev pub noted : Message → Sides → Sides
 noted message sides = record {
   tester_asked = sides.tester_asked || is_tester_request message;

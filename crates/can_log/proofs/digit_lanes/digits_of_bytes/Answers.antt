@@ -6,8 +6,8 @@ use Rattle.can_log.specs.Digits.{digit}
 use Rattle.can_log.proofs.WrittenDigits.{halves, halves_below, digits_of_halves}
 use Rattle.can_log.proofs.digit_lanes.digits_of_bytes.Goals as goal
 
-pub digits_of-requires-clause-each : goal.digits_of-requires-clause-each
-digits_of-requires-clause-each c =
+pub digits_of_values-requires-clause-each : goal.digits_of_values-requires-clause-each
+digits_of_values-requires-clause-each c =
     let bytes = c.args.bytes.now in
     let whole = sym (pick_l_whole 0 bytes 8 c.told-bytes) in
     let small = recursion_from_All (λ b. b < 256) bytes (All-from_get_or (λ b. b < 256) bytes 0 (λ i inside. c.fits-bytes i)) in
@@ -18,5 +18,5 @@ returns c =
     let bytes = c.args.bytes.now in
     let whole = sym (pick_l_whole 0 bytes 8 c.told-bytes) in
     let small = recursion_from_All (λ b. b < 256) bytes (All-from_get_or (λ b. b < 256) bytes 0 (λ i inside. c.fits-bytes i)) in
-    let lanes = rw whole at c.digits_of.ensures in
+    let lanes = rw whole at c.digits_of_values.ensures in
     lanes ∙ ap (λ bytes. map digit (flat_map halves bytes)) (sym whole) ∙ digits_of_halves bytes small

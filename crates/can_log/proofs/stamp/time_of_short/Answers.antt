@@ -8,7 +8,7 @@ use Rattle.can_log.proofs.stamp.time_of_short.Goals as goal
 
 pub decimal_number-requires-clause-digits : goal.decimal_number-requires-clause-digits
 decimal_number-requires-clause-digits c =
-    subst AreDecimals (sym c.short_digits_of.ensures) (padded_decimals c.args.stamp.now (padded c.args.stamp.now) c.requires.stamp refl)
+    subst AreDecimals (sym c.short_stamp_digits.ensures) (padded_decimals c.args.stamp.now (padded c.args.stamp.now) c.requires.stamp refl)
 
 pub returns : goal.returns
 returns c =
@@ -17,5 +17,5 @@ returns c =
     let long : length (padded stamp) ≡ 17 =
     omega (arith, length-append (replicate zeros (code "0")) stamp, length-replicate zeros (code "0"), c.requires.short)
     in
-    c.decimal_number.ensures ∙ ap (λ (l : List ℕ). digits_value 10 l) c.short_digits_of.ensures ∙ stamp_value (padded stamp) long
+    c.decimal_number.ensures ∙ ap (λ (l : List ℕ). digits_value 10 l) c.short_stamp_digits.ensures ∙ stamp_value (padded stamp) long
     ∙ padded_time_is stamp (padded stamp) c.requires.stamp refl

@@ -16,7 +16,7 @@ returns-then-bytes_before-before g c =
     let none : length (bytes_in log (line columns number)) ≡ 0 =
     omega (arith, behind, c.bytes_before.ensures, c.bytes_before-before.ensures, c.if-bytes_before-before.true) in
     subst (λ (text : List ℕ). g.S.TextSink.says c.args.out.now text c.say.new.out)
-    (no-byte c.args.lettered c.args.whose log
+    (no-byte c.args.with_letters c.args.whose log
     (number_text (line_count columns) c.args.whose (bytes_before log columns number) (bytes_before (other_log log) columns number)) (line columns number) (bytes_in log (line columns number)) none)
     c.say.ensures
 
@@ -25,7 +25,7 @@ returns-else-bytes_before-before g c =
     let says = g.S.TextSink.says in
     let onward = g.met.S.TextSink.onward in
     let log = c.args.log in
-    let lettered = c.args.lettered in
+    let lettered = c.args.with_letters in
     let whose = c.args.whose in
     let columns = c.args.line.columns.now in
     let number = c.args.line.number in

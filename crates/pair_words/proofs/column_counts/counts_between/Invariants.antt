@@ -8,7 +8,7 @@ abbrev pub invariant-columns : goal.invariant-columns
 invariant-columns l = record {
   few : l.all ≤ l.at - l.from;
   fewer : l.differing ≤ l.at - l.from;
-  all : l.all + length (counted l.sides (take (l.to - l.at) (drop l.at l.columns))) ≡ length (counted l.sides (take (l.to - l.from) (drop l.from l.columns)));
-  differ : l.differing + differing (counted l.sides (take (l.to - l.at) (drop l.at l.columns)))
-      ≡ differing (counted l.sides (take (l.to - l.from) (drop l.from l.columns)));
+  all : l.all + length (counted l.shown (take (l.to - l.at) (drop l.at l.columns))) ≡ length (counted l.shown (take (l.to - l.from) (drop l.from l.columns)));
+  differ : l.differing + differing (counted l.shown (take (l.to - l.at) (drop l.at l.columns)))
+      ≡ differing (counted l.shown (take (l.to - l.from) (drop l.from l.columns)));
 }

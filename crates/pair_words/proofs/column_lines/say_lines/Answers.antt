@@ -12,7 +12,7 @@ overflow_add-at-end g c = omega (arith, c.requires, length-take 4095 c.args.fold
 
 pub lines-init : goal.lines-init
 lines-init g c =
-    let text = line_text c.args.sides c.args.lettered c.args.fold.columns.now in
+    let text = line_text c.args.shown c.args.with_letters c.args.fold.columns.now in
     let all : c.args.fold.first + c.args.fold.count - c.args.fold.first ≡ c.args.fold.count = omega arith in
     record {
       up = omega arith;
@@ -21,7 +21,7 @@ lines-init g c =
 
 pub lines-preserved : goal.lines-preserved
 lines-preserved g c =
-    let text = line_text c.args.sides c.args.lettered c.args.fold.columns.now in
+    let text = line_text c.args.shown c.args.with_letters c.args.fold.columns.now in
     let end = c.args.fold.first + c.args.fold.count in
     record {
       up = omega (arith, c.lines.invariant.up);
@@ -32,6 +32,6 @@ lines-preserved g c =
 
 pub returns : goal.returns
 returns g c =
-    let text = line_text c.args.sides c.args.lettered c.args.fold.columns.now in
+    let text = line_text c.args.shown c.args.with_letters c.args.fold.columns.now in
     said-whole g.S.TextSink.says c.args.out.now c.lines.out _
     (same-rest g.S.TextSink.says c.args.out.now c.lines.out _ _ _ (ap (flat_map text) (range-none c.lines.at (c.args.fold.first + c.args.fold.count) (omega (arith, c.lines-test.false)))) c.lines.invariant.left)

@@ -8,6 +8,6 @@ use Rattle.pair_words.proofs.column_lines.say_lines.Given as goal
 abbrev pub invariant-lines : goal.invariant-lines
 invariant-lines g l = record {
   up : l.fold.first ≤ l.at;
-  left : IsLeft g.S.TextSink.says l.initial.out (flat_map (line_text l.sides l.lettered l.fold.columns.now) (range_with_len l.at (l.fold.first + l.fold.count - l.at)))
-      (flat_map (line_text l.sides l.lettered l.fold.columns.now) (range_with_len l.fold.first l.fold.count)) l.out;
+  left : IsLeft g.S.TextSink.says l.initial.out (flat_map (line_text l.shown l.with_letters l.fold.columns.now) (range_with_len l.at (l.fold.first + l.fold.count - l.at)))
+      (flat_map (line_text l.shown l.with_letters l.fold.columns.now) (range_with_len l.fold.first l.fold.count)) l.out;
 }

@@ -10,7 +10,7 @@ use Rattle.pair_words.proofs.column_lines.say_stretches.Goals as goal
 pub lines-init : goal.lines-init
 lines-init g c =
     let columns = c.args.columns.now in
-    let text = stretch_text c.args.sides c.args.lettered columns in
+    let text = stretch_text c.args.shown c.args.with_letters columns in
     let all = c.into_iter-stretch-iterator.ensures.into_iter_gives ∙ c.stretches-stretch-items.ensures in
     record {
       kinds = subst (AreOfOneKind c.args.columns.now) (sym all) (stretches_are_of_one_kind c.args.columns.now);
@@ -22,7 +22,7 @@ say_stretch-requires g c = (subst (AreOfOneKind c.args.columns.now) c.in-Some.en
 
 pub lines-preserved : goal.lines-preserved
 lines-preserved g c =
-    let text = stretch_text c.args.sides c.args.lettered c.args.columns.now in
+    let text = stretch_text c.args.shown c.args.with_letters c.args.columns.now in
     let steps = c.in-Some.ensures.steps in
     record {
       kinds = (subst (AreOfOneKind c.args.columns.now) c.in-Some.ensures.steps c.lines.invariant.kinds).2;
@@ -32,6 +32,6 @@ lines-preserved g c =
 
 pub returns : goal.returns
 returns g c =
-    let text = stretch_text c.args.sides c.args.lettered c.args.columns.now in
+    let text = stretch_text c.args.shown c.args.with_letters c.args.columns.now in
     said-whole g.S.TextSink.says c.args.out.now c.lines.out _
     (same-rest g.S.TextSink.says c.args.out.now c.lines.out _ _ _ (ap (flat_map text) c.in-None.ensures.steps.0) c.lines.invariant.left)

@@ -9,6 +9,6 @@ use Rattle.pair_words.proofs.column_lines.say_stretches.Given as goal
 abbrev pub invariant-lines : goal.invariant-lines
 invariant-lines g l = record {
   kinds : AreOfOneKind l.columns l.stretch-iterator;
-  left : IsLeft g.S.TextSink.says l.initial.out (flat_map (stretch_text l.sides l.lettered l.columns) l.stretch-iterator)
-      (flat_map (stretch_text l.sides l.lettered l.columns) (stretches l.columns)) l.out;
+  left : IsLeft g.S.TextSink.says l.initial.out (flat_map (stretch_text l.shown l.with_letters l.columns) l.stretch-iterator)
+      (flat_map (stretch_text l.shown l.with_letters l.columns) (stretches l.columns)) l.out;
 }

@@ -3,7 +3,7 @@ use Rattle.std.proofs.Common.{arith, ◌≡◌, ◌∷◌, ◌++◌, ℕ, ◌≤
 use Rattle.can_log.proofs.Promises.{canonical_line_length, canonical_line_in_parts, canonical_name_length}
 use Rattle.can_log.specs.Canonical.{canonical_stamp}
 use Rattle.direction.specs.declared.Dir.{Dir}
-use Rattle.isotp_segment.specs.CanonicalFrames.{IsFullNext}
+use Rattle.isotp_segment.specs.FullFrames.{FullFrameIsNext}
 use Rattle.trace_log.specs.Settings.{id_of}
 use Rattle.trace_canon.specs.proving.Saying.{SaysFront}
 use Rattle.trace_canon.specs.proving.Writing.{after_line, line_at}
@@ -92,5 +92,5 @@ returns-clause-no_more g c =
 
 pub returns-clause-misses_none : goal.returns-clause-misses_none
 returns-clause-misses_none g c full =
-    let some : false ≡ true = c.in_default.ensures.misses_none (subst (IsFullNext c.args.sender) c.in_default.ensures.none full) in
+    let some : false ≡ true = c.in_default.ensures.misses_none (subst (FullFrameIsNext c.args.sender) c.in_default.ensures.none full) in
     absurd cc

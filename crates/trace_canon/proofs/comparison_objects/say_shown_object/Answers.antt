@@ -11,6 +11,6 @@ returns g c =
     let place = c.args.place in
     let left = shown_value c.args.rules.now (place + 1) (slice_get c.args.compared.now.left.meaning place) in
     let right = shown_value c.args.rules.now (place + 1) (slice_get c.args.compared.now.right.meaning place) in
-    subst (λ text. g.S.TextSink.says c.args.out.now text c.say_text-2.new.out) (shown_object_is place left right)
+    subst (λ text. g.S.TextSink.says c.args.out.now text c.say-3.new.out) (shown_object_is place left right)
     (onward _ _ _ _ _ (onward _ _ _ _ _ (onward _ _ _ _ _ (onward _ _ _ _ _ c.say.ensures c.say_item_at.ensures)
-    c.say_text.ensures) c.say_item_at-2.ensures) c.say_text-2.ensures)
+    c.say-2.ensures) c.say_item_at-2.ensures) c.say-3.ensures)

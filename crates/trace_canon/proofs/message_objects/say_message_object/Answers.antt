@@ -7,4 +7,5 @@ use Rattle.trace_canon.proofs.message_objects.say_message_object.Goals as goal
 pub returns : goal.returns
 returns g c =
     subst (λ text. g.S.TextSink.says c.args.out.now text c.say.new.out)
-    (object_parts c.args.rules.now c.args.message.now.item_number c.args.message.now.step (sent c.args.message.now) c.args.extent) c.say.ensures
+    (object_parts c.args.rules.now c.args.message.now.item_number c.args.message.now.step (sent c.args.message.now)
+    c.args.extent.first c.args.extent.last c.args.extent.is_functional) c.say.ensures

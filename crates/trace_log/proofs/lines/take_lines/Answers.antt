@@ -58,7 +58,7 @@ lines-preserved-in-Some g c =
           read_line took start meanings (bytes ++ c.args.piece.now) c.lines.rest.now _ c.lines.scanner c.scan_next.new.scanner
           (c.lines.taker, c.lines.device) (c.pass.new.self, c.lines.device) used line what
           read foreign.scans left
-          (c.pass.ensures.takes c.lines.device _ _ foreign.stamped known.1 foreign.not_first foreign.not_second start read.meanings counted read.taken);
+          (c.pass.ensures.takes c.lines.device _ foreign.stamped known.1 foreign.foreign start read.meanings counted read.taken);
       kept = λ start bytes meanings first stands taken sure. c.pass.ensures.kept c.lines.device start first (c.lines.invariant.kept start bytes meanings first stands taken sure);
     }
 

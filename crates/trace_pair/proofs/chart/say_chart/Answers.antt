@@ -3,7 +3,7 @@ use Rattle.std.proofs.Common.{◌≡◌, ℕ, ◌-◌, ◌<◌, ◌^◌, List, N
 use Rattle.std.specs.Prelude.{◌==◌}
 use Rattle.trace_report.specs.Rows.{RowValue}
 use Rattle.pair_words.specs.ChartWords.{chart_end, items_end}
-use Rattle.trace_pair.specs.FirstDifference.{chart_from, chart_rows, chart_to, items_left, items_more, rows_more, rows_text}
+use Rattle.trace_pair.specs.FirstDifference.{chart_from, chart_rows, chart_to, items_left, items_more, rows_more, chart_rows_text}
 use Rattle.trace_pair.specs.proving.Marks.{charted_of}
 use Rattle.trace_pair.proofs.ChartPlaces.{more-are, rows-are}
 use Rattle.trace_pair.proofs.chart.say_chart.Goals as goal
@@ -23,7 +23,7 @@ returns g c =
     ap (λ (l : List RowValue). take (c.min-end.result - c.chart_from-from.result) (drop c.chart_from-from.result l)) own
     ∙ rows-are item rows few c.chart_from-from.result c.chart_to-to.result c.min-end.result from_is to_is end_is in
     let said_rows = subst (λ (text : List ℕ). says c.say.new.out text c.say_rows.new.out)
-    (λ i. rows_text chart (c.first_time.ensures i) None (max item 1) (charted i)) c.say_rows.ensures in
+    (λ i. chart_rows_text chart (c.first_time.ensures i) None (max item 1) (charted i)) c.say_rows.ensures in
     let more : c.saturating_sub.result ≡ rows_more item rows =
     c.saturating_sub.ensures ∙ more-are item rows few c.chart_from-from.result c.chart_to-to.result c.min-end.result from_is to_is end_is in
     let ends : (c.chart_to-to.result == c.len.result) ≡ (chart_to item rows == length rows) =

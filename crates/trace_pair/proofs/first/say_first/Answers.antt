@@ -6,15 +6,15 @@ use Rattle.shown_rows.specs.declared.changes.Change.{Change}
 use Rattle.shown_rows.specs.Changes.{changes}
 use Rattle.trace_report.specs.Session.{SessionValue}
 use Rattle.uds_difference.specs.declared.row.Row.{Row}
-use Rattle.trace_pair.specs.FirstDifference.{first_if, first_of}
+use Rattle.trace_pair.specs.FirstDifference.{first_if, first_change_text}
 use Rattle.trace_pair.proofs.ChangeSteps.{none-before}
 use Rattle.trace_pair.proofs.first.say_first.Goals as goal
 
 module _ (left_name right_name : List ℕ) (left right : SessionValue) (rows : List Row) where
   some-first : (all : List Change) (here : Change) (count : ℕ) → Some here ≡ slice_get all 0 → count ≡ length all
-      → first_of count left_name right_name left right rows here ≡ first_if left_name right_name left right rows all
+      → first_change_text count left_name right_name left right rows here ≡ first_if left_name right_name left right rows all
   some-first [] here count is many = absurd (none-some here (sym is))
-  some-first (first ∷ later) here count is many = λ i. first_of (many i) left_name right_name left right rows (same_Some here first is i)
+  some-first (first ∷ later) here count is many = λ i. first_change_text (many i) left_name right_name left right rows (same_Some here first is i)
 
   none-first : (all : List Change) → ◌≡◌ {A = Option Change} None (slice_get all 0) → [] ≡ first_if left_name right_name left right rows all
   none-first [] is = refl

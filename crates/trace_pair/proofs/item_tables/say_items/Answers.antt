@@ -4,5 +4,4 @@ use Rattle.trace_pair.proofs.item_tables.say_items.Goals as goal
 pub returns : goal.returns
 returns g c =
     let onward = g.met.S.TextSink.onward in
-    let front = onward _ _ _ _ _ (onward _ _ _ _ _ (rw (c.is_filtered.ensures) at c.say.ensures) c.say_losses_of_no_item.ensures) c.say_losses_of_no_item-2.ensures in
-    onward _ _ _ _ _ (onward _ _ _ _ _ front c.say_rows_or_none.ensures) c.say-2.ensures
+    onward _ _ _ _ _ (onward _ _ _ _ _ (rw (c.is_filtered.ensures) at c.say.ensures) c.say_rows_or_none.ensures) c.say-2.ensures

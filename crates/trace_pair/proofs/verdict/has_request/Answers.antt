@@ -11,15 +11,15 @@ use Rattle.trace_pair.proofs.verdict.has_request.Goals as goal
 pub places-init : goal.places-init
 places-init c = refl
 
-pub returns-then-asks_at : goal.returns-then-asks_at
-returns-then-asks_at c =
+pub returns-then-is_exchange_at : goal.returns-then-is_exchange_at
+returns-then-is_exchange_at c =
     let items = values_in c.args.session.now in
-    sym (c.places.invariant ∙ asks-here items c.places.at (slice_get items c.places.at) refl (sym c.asks_at.ensures ∙ c.if-asks_at.true))
+    sym (c.places.invariant ∙ asks-here items c.places.at (slice_get items c.places.at) refl (sym c.is_exchange_at.ensures ∙ c.if-is_exchange_at.true))
 
 pub places-preserved : goal.places-preserved
 places-preserved c =
     let items = values_in c.args.session.now in
-    c.places.invariant ∙ asks-later items c.places.at (slice_get items c.places.at) refl (sym c.asks_at.ensures ∙ c.if-asks_at.false)
+    c.places.invariant ∙ asks-later items c.places.at (slice_get items c.places.at) refl (sym c.is_exchange_at.ensures ∙ c.if-is_exchange_at.false)
 
 pub returns : goal.returns
 returns c =

@@ -2,7 +2,7 @@
 -- answers.
 use Rattle.std.proofs.Common.{not, subst, Ok, Err}
 use Rattle.trace_run.specs.declared.machine.NoAnswer.TheVariants.{OutputLimit}
-use Rattle.trace_run.specs.proving.Carrying.{Carries, blank_sheet}
+use Rattle.trace_run.specs.proving.Carrying.{HasSaid, blank_sheet}
 use Rattle.trace_run.specs.proving.Ending.{whole_since}
 use Rattle.trace_run.specs.proving.Ruling.{HasJudged}
 use Rattle.trace_log.specs.Trace.{trace}
@@ -18,7 +18,7 @@ returns-then-not-settle-clause-ends g c = λ start settings log meanings receive
     let telling = c.args.receiver.telling in
     let judged = subst (λ rules. HasJudged rules (trace settings meanings) telling.judge telling.ruling.left_out) ruled tells.judged in
     let counted = c.summary-summary.ensures settings log meanings received feed judged in
-    subst (λ b. Carries W start.target (whole_since M W start settings log meanings) (blank_sheet (not b)) c.settle.new.target) c.if-not-settle.true
+    subst (λ b. HasSaid W start.target (whole_since M W start settings log meanings) (blank_sheet (not b)) c.settle.new.target) c.if-not-settle.true
     (carried_at_the_end M W start settings log meanings _ _ _ _ _ c.settle.result c.summary-summary.result tells counted
     (c.tell_end-answer.ensures.says start.rules start.machine (trace settings meanings) tells.machine_stands received.pair_is)
     c.settle.ensures.settled)
@@ -32,7 +32,7 @@ returns-clause-ends g c = λ start settings log meanings received feed ruled tel
     let counted = c.summary-summary.ensures settings log meanings received feed judged in (
       subst (λ s. M.answers start.rules start.machine (trace settings meanings) s (Ok c.in_ok-answer.field-0)) counted
           (c.in_ok-answer.ensures.answered start.rules start.machine (trace settings meanings) tells.machine_stands received.pair_is),
-      subst (λ b. Carries W start.target (whole_since M W start settings log meanings) (blank_sheet (not b)) c.settle.new.target)
+      subst (λ b. HasSaid W start.target (whole_since M W start settings log meanings) (blank_sheet (not b)) c.settle.new.target)
           c.if-not-settle.false
           (carried_at_the_end M W start settings log meanings _ _ _ _ _ c.settle.result c.summary-summary.result tells counted
           (c.tell_end-answer.ensures.says start.rules start.machine (trace settings meanings) tells.machine_stands received.pair_is)
@@ -51,7 +51,7 @@ returns-in_err-answer-clause-ends g c = λ start settings log meanings received 
           (subst (λ reason. M.answers start.rules start.machine (trace settings meanings) c.summary-summary.result (Err reason))
           (only_output_limit c.in_err-answer.field-0.0)
           (c.in_err-answer.ensures.answered start.rules start.machine (trace settings meanings) tells.machine_stands received.pair_is)),
-      subst (λ b. Carries W start.target (whole_since M W start settings log meanings) (blank_sheet (not b)) c.settle.new.target)
+      subst (λ b. HasSaid W start.target (whole_since M W start settings log meanings) (blank_sheet (not b)) c.settle.new.target)
           c.if-not-settle.false
           (carried_at_the_end M W start settings log meanings _ _ _ _ _ c.settle.result c.summary-summary.result tells counted
           (c.tell_end-answer.ensures.says start.rules start.machine (trace settings meanings) tells.machine_stands received.pair_is)

@@ -6,7 +6,7 @@ use Rattle.trace_run.proofs.receiver.hand_on.Goals as goal
 pub returns-in-Message-clause-told : goal.returns-in-Message-clause-told
 returns-in-Message-clause-told g c = λ T e seen.
     let same = sym (ap (λ v. seen_event (record { verdict = v; ended = c.args.frame.event.ended })) c.in-Message.is) in
-    c.count_and_tell.ensures.told T e (record { few = seen.few; line = seen.line; micros = seen.micros; dir = seen.dir; did = same ∙ seen.did })
+    c.count_and_tell.ensures.told T e (record { few = seen.few; line = seen.line; micros = seen.micros; channel = seen.channel; did = same ∙ seen.did })
 
 pub returns-in-Stored-clause-told : goal.returns-in-Stored-clause-told
 returns-in-Stored-clause-told g c = λ T e seen.
@@ -15,6 +15,6 @@ returns-in-Stored-clause-told g c = λ T e seen.
       few = seen.few;
       line = seen.line;
       micros = seen.micros;
-      dir = seen.dir;
+      channel = seen.channel;
       did = same ∙ seen.did;
     })

@@ -1,7 +1,8 @@
 -- Each item adds its line, numbered by its place.
 use Rattle.std.proofs.Common.{sym, arith, ap, subst, take_all}
 use Rattle.trace_text.specs.ItemLines.{list_text}
-use Rattle.trace_text.proofs.ItemLines.{more_lines, is_there}
+use Rattle.trace_text.proofs.ItemLines.{more_lines}
+use Rattle.trace_text.proofs.Lists.{is_there}
 use Rattle.trace_text.proofs.item_lines.say_items.Goals as goal
 use Rattle.trace_text.proofs.item_lines.say_items.Goals.{in-Some, in_default}
 

@@ -1,5 +1,5 @@
-use Rattle.uds_exchange.proofs.PuttingItems.{decided-puts-go-on}
+use Rattle.uds_exchange.proofs.PuttingItems.{decided_puts_go_on}
 use Rattle.uds_exchange.proofs.laws.decided_puts_go_on.Goals as goal
 
 pub returns : goal.returns
-returns g c = decided-puts-go-on g.S.ItemSink.takes
+returns g c = decided_puts_go_on g.S.ItemSink.takes

@@ -1,5 +1,5 @@
-use Rattle.uds_exchange.proofs.MessagesByRoles.{each-has-roles}
+use Rattle.uds_exchange.proofs.MessagesByRoles.{each_list_has_roles}
 use Rattle.uds_exchange.proofs.laws.each_list_has_roles.Goals as goal
 
 pub returns : goal.returns
-returns c = each-has-roles
+returns c = each_list_has_roles

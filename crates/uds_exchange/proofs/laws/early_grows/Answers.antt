@@ -1,5 +1,5 @@
-use Rattle.uds_exchange.proofs.EarlyOfMore.{early-grows}
+use Rattle.uds_exchange.proofs.EarlyOfMore.{early_grows}
 use Rattle.uds_exchange.proofs.laws.early_grows.Goals as goal
 
 pub returns : goal.returns
-returns c = early-grows
+returns c = early_grows

@@ -1,5 +1,5 @@
-use Rattle.uds_exchange.proofs.HeldMustWait.{answer-first}
+use Rattle.uds_exchange.proofs.HeldMustWait.{held_must_wait}
 use Rattle.uds_exchange.proofs.laws.held_must_wait.Goals as goal
 
 pub returns : goal.returns
-returns c = answer-first
+returns c = held_must_wait

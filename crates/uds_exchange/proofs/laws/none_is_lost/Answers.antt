@@ -1,5 +1,5 @@
-use Rattle.uds_exchange.proofs.NoneLost.{none-lost}
+use Rattle.uds_exchange.proofs.NoneLost.{none_is_lost}
 use Rattle.uds_exchange.proofs.laws.none_is_lost.Goals as goal
 
 pub returns : goal.returns
-returns c = none-lost
+returns c = none_is_lost

@@ -1,5 +1,5 @@
-use Rattle.uds_exchange.proofs.OrdererSteps.{puts-go-on}
+use Rattle.uds_exchange.proofs.OrdererSteps.{puts_go_on}
 use Rattle.uds_exchange.proofs.laws.puts_go_on.Goals as goal
 
 pub returns : goal.returns
-returns g c = puts-go-on g.S.MessageSink.after_ok g.S.MessageSink.after_err
+returns g c = puts_go_on g.S.MessageSink.after_ok g.S.MessageSink.after_err

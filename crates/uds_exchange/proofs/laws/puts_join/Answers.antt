@@ -1,5 +1,5 @@
-use Rattle.uds_exchange.proofs.PuttingMessages.{puts-append}
+use Rattle.uds_exchange.proofs.PuttingMessages.{puts_join}
 use Rattle.uds_exchange.proofs.laws.puts_join.Goals as goal
 
 pub returns : goal.returns
-returns g c = puts-append g.S.MessageSink.after_ok g.S.MessageSink.after_err
+returns g c = puts_join g.S.MessageSink.after_ok g.S.MessageSink.after_err

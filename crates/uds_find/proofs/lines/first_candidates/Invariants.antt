@@ -9,6 +9,7 @@ use Rattle.uds_find.proofs.lines.first_candidates.Given as goal
 
 abbrev pub invariant-pairs : goal.invariant-pairs
 invariant-pairs l = record {
-  first : (unit : Id) → first_among unit (lookup (is_same unit) l.candidates.entries) l.pair-iterator ≡ first_among unit None l.credits.entries;
+  first : (unit : Id) → first_among l.functional.keys unit (lookup (is_same unit) l.candidates.entries) l.pair-iterator
+      ≡ first_among l.functional.keys unit None l.credits.entries;
   once : IsDistinct is_same (keys_of l.candidates.entries);
 }

@@ -6,5 +6,5 @@ use Rattle.asked_profile.proofs.wrong_text.RuleAtPart.say.Goals as goal
 
 pub returns : goal.returns
 returns g c =
-    let bytes = c.as_bytes.ensures.value ∙ ap (λ t. t.now) c.unwrap_or.ensures ∙ text_or c.rule_text.result _ ∙ ap (λ t. unwrap_or t []) c.rule_text.ensures in
+    let bytes = c.as_bytes.ensures.value ∙ ap (λ t. t.now) c.unwrap_or.ensures ∙ text_or c.written_rule.result _ ∙ ap (λ t. unwrap_or t []) c.written_rule.ensures in
     subst (λ text. g.S.TextSink.says c.args.out.now (clipped_as_written text) c.say.new.out) bytes c.say.ensures

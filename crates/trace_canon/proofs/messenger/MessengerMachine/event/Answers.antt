@@ -11,7 +11,7 @@ returns-in-Some-clause-ok g c = λ rules start T e seen stood.
     let completes = completes_judged rules T e what judged seen c.in-Some.is in
     let first = c.take-first.ensures.place T e seen.event stood.begun (completes.whole, completes.did) in
     let said = judged_said rules T e what judged seen completes start.notation c.args.self.now.notation c.args.self.now.rules.now
-    c.take-first.result stood.same stood.same_rules first in (
+    c.take-first.result c.is_functional.result stood.same stood.same_rules first c.is_functional.ensures in (
       record { same = stood.same; same_rules = stood.same_rules; begun = c.take-first.ensures.begun T e seen.event stood.begun },
       subst (λ text. g.S.TextSink.says c.args.out.now text c.say_message.new.out) said c.say_message.ensures,
     )

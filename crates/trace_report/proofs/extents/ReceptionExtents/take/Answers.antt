@@ -2,9 +2,7 @@
 use Rattle.std.proofs.Common.{arith, ap, ◌∙◌}
 use Rattle.isotp_receive.specs.EventSeen.{seen_event}
 use Rattle.isotp_receive.specs.Verdict.{EventValue}
-use Rattle.trace_canon.specs.ReceptionStarts.{reception_start}
 use Rattle.trace_report.proofs.FrameCounting.{frames_next, frames_known}
-use Rattle.trace_report.specs.proving.Following.{frames_with}
 use Rattle.trace_report.proofs.extents.ReceptionExtents.take.Goals as goal
 
 pub returns-clause-next : goal.returns-clause-next
@@ -12,7 +10,7 @@ returns-clause-next c = λ T e is known.
     let few = is.few in
     record {
       begun = c.take-first.ensures.begun T e is known.begun;
-      frames = frames_next T e c.args.dir (seen_event c.args.event).verdict is.dir (ap (λ (x : EventValue). x.verdict) is.did) (omega arith) c.args.self.now.frames c.take.new.self known.frames
+      frames = frames_next T e c.args.channel (seen_event c.args.event).verdict is.channel (ap (λ (x : EventValue). x.verdict) is.did) (omega arith) c.args.self.now.frames c.take.new.self known.frames
           c.take.ensures.tester c.take.ensures.unit;
     }
 
@@ -22,6 +20,6 @@ returns-clause-first c = λ T e is known completes. c.take-first.ensures.place T
 pub returns-clause-frames : goal.returns-clause-frames
 returns-clause-frames c = λ T e is known completes.
     let few = is.few in
-    c.frames_carrying-frames.ensures ∙ ap (λ b. frames_with b c.of-2.result) c.still_begun-begun.ensures
-    ∙ frames_known T e c.args.dir (seen_event c.args.event) c.args.self.now c.of.result c.of-2.result completes.0 is.dir is.did (omega arith) known (λ side. c.of.ensures ∙ ap (reception_start c.args.self.now.begun) side) (λ side. c.of.ensures ∙ ap (reception_start c.args.self.now.begun) side)
-    c.of-2.ensures.tester c.of-2.ensures.unit (ap (λ (x : EventValue). x.verdict) is.did ∙ completes.1)
+    c.frames_of-frames.ensures
+    ∙ frames_known T e c.args.channel (seen_event c.args.event) c.args.self.now completes.0 is.channel is.did (omega arith) known
+    (ap (λ (x : EventValue). x.verdict) is.did ∙ completes.1)

@@ -1,6 +1,7 @@
 -- The rows of a frame are kept behind those before it; only for rows is memory needed.
 use Rattle.std.proofs.Common.{List, ◌∷◌, ◌++◌, [], arith, ap, sym, ◌∙◌}
 use Rattle.std.proofs.lemmas.List.{length-append}
+use Rattle.isotp_receive.specs.Channels.{dir_of}
 use Rattle.isotp_receive.specs.declared.TheConstants.{MESSAGE_LIMIT}
 use Rattle.isotp_receive.specs.Verdict.{messages}
 use Rattle.uds_rules.specs.Rule.{RuleValue}
@@ -13,7 +14,7 @@ pub returns-clause-ok : goal.returns-clause-ok
 returns-clause-ok g c = λ rules start T e seen known.
     let M = messages MESSAGE_LIMIT T in
     let own = c.args.self.now.rules.now in
-    let counted = c.count_message.ensures M c.args.seen.dir (few_messages T seen.event.few)
+    let counted = c.count_message.ensures M (dir_of c.args.seen.channel) (few_messages T seen.event.few)
     (known.spoken ∙ ap (λ (l : List RuleValue). spoken_counts l M) (sym known.ruled)) in
     let rows = c.take-rows.ensures.rows rules T e seen known.follows in (
       record {

@@ -1,4 +1,5 @@
--- As many rows stand before an item as its place says, which was noted when it began; before one that is not there, all.
+-- As many rows stand before an item as its place says, which was noted when it began; before one that is not there,
+-- all.
 use Rattle.std.proofs.Common.{◌≡◌, ◌≤◌, ◌+◌, ℕ, List, Option, Some, length, ap, sym, refl, option_map, arith, ◌∙◌, rules}
 use Rattle.std.specs.Prelude.{slice_get}
 use Rattle.std.proofs.lemmas.List.{length-map}

@@ -1,6 +1,7 @@
 -- A frame adds the front, where it is the first, and its rows.
 use Rattle.std.proofs.Common.{◌≡◌, ◌<◌, ◌^◌, ◌-◌, List, Some, arith, ap, sym, subst, ◌∙◌, [], ◌∷◌, ◌++◌, length}
 use Rattle.std.proofs.lemmas.List.{length-append}
+use Rattle.isotp_receive.specs.Channels.{dir_of}
 use Rattle.isotp_receive.specs.declared.TheConstants.{MESSAGE_LIMIT}
 use Rattle.isotp_receive.specs.Verdict.{messages}
 use Rattle.uds_rules.specs.Rule.{RuleValue}
@@ -23,7 +24,7 @@ returns-clause-ok g c = λ rules start T e seen known.
     let M = messages MESSAGE_LIMIT T in
     let page = c.args.self.now.title.rules.now in
     let ruled : c.args.self.now.title.rules.now ≡ (title_of start.title).rules = ap (λ (title : PageTitleValue). title.rules) known.same in
-    let counted = c.count_message.ensures M c.args.seen.dir (few_messages T seen.event.few)
+    let counted = c.count_message.ensures M (dir_of c.args.seen.channel) (few_messages T seen.event.few)
     (known.spoken ∙ ap (λ (l : List RuleValue). spoken_counts l M) (sym ruled)) in
     let times = c.times_with-times.ensures T e known.times seen.event.micros in
     let origin = first_known (T ++ e ∷ []) (Some c.times_with-times.result) times in

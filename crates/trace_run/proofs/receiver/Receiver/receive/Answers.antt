@@ -6,12 +6,12 @@ use Rattle.trace_run.proofs.receiver.Receiver.receive.Goals as goal
 
 pub returns-in-Ok-clause-told : goal.returns-in-Ok-clause-told
 returns-in-Ok-clause-told g c = λ T stands few.
-    let e = entry_at c.args.line c.args.stamped.now c.args.dir in
-    c.hand_on.ensures.told T e (record { few = few; line = refl; micros = refl; dir = refl; did = c.in-Ok.ensures.verdict T stands })
+    let e = entry_at c.args.line c.args.stamped.now c.args.channel in
+    c.hand_on.ensures.told T e (record { few = few; line = refl; micros = refl; channel = refl; did = c.in-Ok.ensures.verdict T stands })
 
 pub returns-in-Err-clause-told : goal.returns-in-Err-clause-told
 returns-in-Err-clause-told g c = λ T stands few.
-    let e = entry_at c.args.line c.args.stamped.now c.args.dir in
+    let e = entry_at c.args.line c.args.stamped.now c.args.channel in
     let kept = c.in-Err.ensures.refused T stands in
     record {
       ok = tt;

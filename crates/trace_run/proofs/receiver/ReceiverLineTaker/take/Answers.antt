@@ -2,11 +2,13 @@
 use Rattle.std.proofs.Common.{arith, ◌≡◌, ℕ, ◌+◌, [], ◌∷◌, ◌++◌, length, Some, None, ap, sym, subst, ◌∙◌}
 use Rattle.std.proofs.lemmas.Result.{IfErr-weaker}
 use Rattle.isotp_receive.specs.declared.TheConstants.{MESSAGE_LIMIT}
-use Rattle.isotp_receive.specs.Trace.{Entry}
+use Rattle.isotp_receive.specs.Channels.{dir_of}
+use Rattle.isotp_receive.specs.Trace.{Entry, layout_in}
+use Rattle.isotp_receive.specs.Capacities.{CapacitiesGrow}
 use Rattle.isotp_receive.specs.Verdict.{verdict}
 use Rattle.isotp_receive.specs.StandingReception.{receptions_after}
 use Rattle.trace_run.specs.proving.Telling.{start_with, HasStopped, HasTold}
-use Rattle.trace_log.specs.Settings.{Settings, direction_of}
+use Rattle.trace_log.specs.Settings.{Settings, channel_by}
 use Rattle.trace_log.specs.Trace.{trace}
 use Rattle.trace_log.specs.Summing.{counted_more}
 use Rattle.trace_log.specs.proving.Receiving.{entry_at, entry_in}
@@ -27,14 +29,14 @@ returns-in_default-clause-ok g c = λ start meanings number few took settings ma
           (sym same) so_far.1,
     )
 
-pub returns-in_default-direction_of-clause-ok : goal.returns-in_default-direction_of-clause-ok
-returns-in_default-direction_of-clause-ok g c = λ start meanings number few took settings machine_start begun.
+pub returns-in_default-channel_by-clause-ok : goal.returns-in_default-channel_by-clause-ok
+returns-in_default-channel_by-clause-ok g c = λ start meanings number few took settings machine_start begun.
     let so_far = took settings machine_start begun in
     let self = c.args.self.now in
     let stamped = c.in-Some.stamped in
-    let none : None ≡ direction_of settings stamped.frame.id =
-    sym c.in_default-direction_of.is ∙ c.direction_of.ensures ∙ ap (direction_of self.config.now) c.id.ensures
-    ∙ ap (λ s. direction_of s stamped.frame.id) so_far.0.config in
+    let none : None ≡ channel_by settings stamped.frame.id =
+    sym c.in_default-channel_by.is ∙ c.channel_by.ensures ∙ ap (channel_by self.config.now) c.id.ensures
+    ∙ ap (λ s. channel_by s stamped.frame.id) so_far.0.config in
     let same = trace_same_foreign settings meanings c.args.what.now stamped c.in-Some.is none in (
       record {
         config = so_far.0.config;
@@ -47,15 +49,15 @@ returns-in_default-direction_of-clause-ok g c = λ start meanings number few too
 pub returns-clause-ok : goal.returns-clause-ok
 returns-clause-ok g c =
     let stamped = c.in-Some.stamped in
-    let d = c.in-Some-direction_of.dir in
+    let d = c.in-Some-channel_by.channel in
     let self = c.args.self.now in
     let now = c.receive.new.self in
     let at : ℕ → Entry = λ line. entry_at line stamped d in
     four_ok c.receive.result (λ stands grew counts taken start meanings number few took settings machine_start begun.
     let so_far = took settings machine_start begun in
-    let direction : Some d ≡ direction_of settings stamped.frame.id =
-    sym c.in-Some-direction_of.is ∙ c.direction_of.ensures ∙ ap (direction_of self.config.now) c.id.ensures
-    ∙ ap (λ s. direction_of s stamped.frame.id) so_far.0.config in
+    let direction : Some d ≡ channel_by settings stamped.frame.id =
+    sym c.in-Some-channel_by.is ∙ c.channel_by.ensures ∙ ap (channel_by self.config.now) c.id.ensures
+    ∙ ap (λ s. channel_by s stamped.frame.id) so_far.0.config in
     let next = trace_next settings meanings c.args.what.now stamped d c.in-Some.is direction in
     let line : c.args.line ≡ 1 + length meanings = omega arith in
     let here : at c.args.line ≡ entry_in meanings stamped d = ap at line in
@@ -68,8 +70,8 @@ returns-clause-ok g c =
             receives_next settings meanings c.args.what.now (entry_in meanings stamped d) self.pair now.pair self.lines now.lines
             self.counts now.counts next (c.receive.ensures.same.1 ∙ number) few
             (stands T so_far.0.lines.pair_is ∙ ap (λ (e : Entry). receptions_after MESSAGE_LIMIT (T ++ e ∷ [])) here)
-            grew
-            (counts T so_far.0.lines.pair_is ∙ ap (λ (e : Entry). counted_more d (verdict MESSAGE_LIMIT T e) self.counts) here) so_far.0.lines;
+            (subst (λ (e : Entry). CapacitiesGrow MESSAGE_LIMIT (dir_of d) (layout_in e) self.pair now.pair) here grew)
+            (counts T so_far.0.lines.pair_is ∙ ap (λ (e : Entry). counted_more (dir_of d) (verdict MESSAGE_LIMIT T e) self.counts) here) so_far.0.lines;
       },
       subst (λ U. HasTold g.M.Machine g.W.Target begins U now.telling c.receive.new.target) (sym next)
           (subst (λ (e : Entry). HasTold g.M.Machine g.W.Target begins (T ++ e ∷ []) now.telling c.receive.new.target) here
@@ -80,7 +82,7 @@ returns-clause-ok g c =
 pub returns-clause-err : goal.returns-clause-err
 returns-clause-err g c =
     let stamped = c.in-Some.stamped in
-    let d = c.in-Some-direction_of.dir in
+    let d = c.in-Some-channel_by.channel in
     let at : ℕ → Entry = λ line. entry_at line stamped d in
     IfErr-weaker c.receive.result _ _ (λ fault stops start meanings number few took settings machine_start begun.
     let so_far = took settings machine_start begun in
@@ -91,11 +93,11 @@ returns-clause-err g c =
     let begins = start_with settings.rules machine_start start.1 in
     record {
       stamped = stamped;
-      dir = d;
+      channel = d;
       means = c.in-Some.is;
-      direction =
-          sym c.in-Some-direction_of.is ∙ c.direction_of.ensures ∙ ap (direction_of c.args.self.now.config.now) c.id.ensures
-          ∙ ap (λ s. direction_of s stamped.frame.id) so_far.0.config;
+      found =
+          sym c.in-Some-channel_by.is ∙ c.channel_by.ensures ∙ ap (channel_by c.args.self.now.config.now) c.id.ensures
+          ∙ ap (λ s. channel_by s stamped.frame.id) so_far.0.config;
       stopped =
           subst (λ (e : Entry). HasStopped g.M.Machine g.W.Target begins T e fault c.receive.new.self.telling c.receive.new.target) here
           (stops T so_far.0.lines.pair_is (omega arith) begins (ap (λ (s : Settings). s.rules) (sym so_far.0.config)) so_far.1);

@@ -1,7 +1,7 @@
 -- The text was gathered, writing failed, or it had failed before, where only a front is known.
 use Rattle.std.proofs.Common.{◌<◌, arith, length, length-append, ◌+◌, ◌++◌, false, ap, sym, subst, ◌∙◌}
 use Rattle.trace_io.proofs.Promises.{took_more}
-use Rattle.trace_run.specs.proving.Carrying.{Carries}
+use Rattle.trace_run.specs.proving.Carrying.{HasSaid}
 use Rattle.trace_run.proofs.Carryings.{said_in_vain}
 use Rattle.trace_run.proofs.WrittenFronts.{front_behind, written_behind}
 use Rattle.trace_run.proofs.sheet.Sheet.put_where_full.Goals as goal
@@ -12,8 +12,8 @@ returns-in-Err g c = λ start said carries.
     let sheet = c.args.self.now in
     let failed = c.in-Err.ensures in
     let some_text : 0 < length c.args.text.now = c.requires in
-    let so_far : Carries W start said (record sheet { failed = false }) c.args.target.now =
-    subst (λ b. Carries W start said (record sheet { failed = b }) c.args.target.now) (c.may_write.ensures.well c.if-not-may_write.false) carries in
+    let so_far : HasSaid W start said (record sheet { failed = false }) c.args.target.now =
+    subst (λ b. HasSaid W start said (record sheet { failed = b }) c.args.target.now) (c.may_write.ensures.well c.if-not-may_write.false) carries in
     record {
       low = so_far.low;
       gathered_some = λ some. omega (arith, some_text, length-append said c.args.text.now);
@@ -34,9 +34,9 @@ returns-in_default g c = λ start said carries.
     let sheet = c.args.self.now in
     let put = c.in_default.ensures in
     let some_text : 0 < length c.args.text.now = c.requires in
-    let so_far : Carries W start said (record sheet { failed = false }) c.args.target.now =
-    subst (λ b. Carries W start said (record sheet { failed = b }) c.args.target.now) (c.may_write.ensures.well c.if-not-may_write.false) carries in
-    subst (λ b. Carries W start (said ++ c.args.text.now) (record { gathered = c.gather.new.gathered; failed = b }) c.gather.new.target)
+    let so_far : HasSaid W start said (record sheet { failed = false }) c.args.target.now =
+    subst (λ b. HasSaid W start said (record sheet { failed = b }) c.args.target.now) (c.may_write.ensures.well c.if-not-may_write.false) carries in
+    subst (λ b. HasSaid W start (said ++ c.args.text.now) (record { gathered = c.gather.new.gathered; failed = b }) c.gather.new.target)
     (sym (c.may_write.ensures.well c.if-not-may_write.false)) (record {
       low = so_far.low;
       gathered_some = λ some. omega (arith, some_text, length-append said c.args.text.now);

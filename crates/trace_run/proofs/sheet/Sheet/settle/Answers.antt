@@ -1,7 +1,7 @@
 -- Nothing is gathered, all that was is written, or a front of it, where writing failed.
 use Rattle.std.proofs.Common.{arith, refl, ◌+◌, ◌++◌, append-nil, false, [], Err, ap, sym, subst, ◌∙◌}
 use Rattle.trace_io.proofs.Promises.{took_more}
-use Rattle.trace_run.specs.proving.Carrying.{Carries, blank_sheet}
+use Rattle.trace_run.specs.proving.Carrying.{HasSaid, blank_sheet}
 use Rattle.trace_run.proofs.Carryings.{let_go}
 use Rattle.trace_run.proofs.WrittenFronts.{gathered_front_written, gathered_written, rest_along}
 use Rattle.trace_run.proofs.sheet.Sheet.settle.Goals as goal
@@ -15,8 +15,8 @@ returns-in-Err-clause-settled g c = λ start said carries.
     let W = g.W.Target in
     let sheet = c.args.self.now in
     let failed = c.in-Err.ensures in
-    let so_far : Carries W start said (record sheet { failed = false }) c.args.target.now =
-    subst (λ b. Carries W start said (record sheet { failed = b }) c.args.target.now) (c.may_write.ensures.well c.if-not-may_write.false) carries in
+    let so_far : HasSaid W start said (record sheet { failed = false }) c.args.target.now =
+    subst (λ b. HasSaid W start said (record sheet { failed = b }) c.args.target.now) (c.may_write.ensures.well c.if-not-may_write.false) carries in
     record {
       low = so_far.low;
       gathered_some = λ some. absurd (omega arith);
@@ -37,8 +37,8 @@ returns-clause-settled g c = λ start said carries.
     let W = g.W.Target in
     let sheet = c.args.self.now in
     let wrote = c.in_default.ensures in
-    let so_far : Carries W start said (record sheet { failed = false }) c.args.target.now =
-    subst (λ b. Carries W start said (record sheet { failed = b }) c.args.target.now) (c.may_write.ensures.well c.if-not-may_write.false) carries in
+    let so_far : HasSaid W start said (record sheet { failed = false }) c.args.target.now =
+    subst (λ b. HasSaid W start said (record sheet { failed = b }) c.args.target.now) (c.may_write.ensures.well c.if-not-may_write.false) carries in
     record {
       low = so_far.low;
       gathered_some = λ some. absurd (omega arith);
@@ -74,6 +74,6 @@ returns-in-Err-clause-no_more g c = λ start said carries.
 pub returns-clause-no_more : goal.returns-clause-no_more
 returns-clause-no_more g c = λ start said carries.
     let W = g.W.Target in
-    subst (λ h. Carries W start said (record c.args.self.now { gathered = h }) c.write_out.new.target) (sym c.write_out.ensures.blank)
-    (subst (λ b. Carries W start said (blank_sheet b) c.write_out.new.target)
+    subst (λ h. HasSaid W start said (record c.args.self.now { gathered = h }) c.write_out.new.target) (sym c.write_out.ensures.blank)
+    (subst (λ b. HasSaid W start said (blank_sheet b) c.write_out.new.target)
     (sym (c.may_write.ensures.well c.if-not-may_write.false)) (returns-clause-settled g c start said carries))

@@ -1,7 +1,7 @@
 -- What is on the sheet is settled: so all that was said is written, or writing failed.
 use Rattle.std.proofs.Common.{[], arith, false, subst}
 use Rattle.std.specs.Prelude.{not}
-use Rattle.trace_run.specs.proving.Carrying.{Carries, blank_sheet}
+use Rattle.trace_run.specs.proving.Carrying.{HasSaid, blank_sheet}
 use Rattle.trace_run.specs.proving.Telling.{said_since, HasToldAndWritten}
 use Rattle.trace_run.proofs.Carryings.{carries_at_start, wrote_all}
 use Rattle.trace_run.proofs.ToldFrames.{settled_as, same_sheet}
@@ -25,8 +25,8 @@ returns g c =
           (settled_as M W start T self _ _ c.settle.result tells c.settle.ensures.settled);
       sure = λ is start T tells.
           let text = said_since M start.rules start.machine T in
-          let written : Carries W start.target text (blank_sheet false) c.settle.new.target =
-          subst (λ b. Carries W start.target text (blank_sheet (not b)) c.settle.new.target) is
+          let written : HasSaid W start.target text (blank_sheet false) c.settle.new.target =
+          subst (λ b. HasSaid W start.target text (blank_sheet (not b)) c.settle.new.target) is
           (c.settle.ensures.settled start.target text tells.carried) in
           record {
             within = tells.within;

@@ -31,7 +31,10 @@ returns-in-Pdu g c =
           | inl unexpected ↦ subst alone (sym unexpected) refl
           | inr rest ↦ elim rest [
             | inl late ↦ subst alone (sym late) refl
-            | inr length ↦ subst alone (sym length) refl
+            | inr rest ↦ elim rest [
+              | inl length ↦ subst alone (sym length) refl
+              | inr to_all ↦ subst alone (sym to_all) refl
+            ]
           ]
         ]
       ]

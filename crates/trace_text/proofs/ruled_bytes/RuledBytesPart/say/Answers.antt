@@ -1,9 +1,9 @@
--- Without rules the text is that of the bytes.
+-- The text of a message of which no rule may speak is that of its bytes.
 use Rattle.std.proofs.Common.{sym, subst}
-use Rattle.trace_text.specs.RuledText.{ruled_text}
+use Rattle.trace_text.specs.RuledText.{text_by}
 use Rattle.trace_text.proofs.ruled_bytes.RuledBytesPart.say.Goals as goal
 
-pub returns-then-is_empty : goal.returns-then-is_empty
-returns-then-is_empty g c =
-    subst (λ rules. g.S.TextSink.says c.args.out.now (ruled_text rules c.args.self.message.now) c.say.new.out)
-    (sym (c.is_empty.ensures.none c.if-is_empty.true)) c.say.ensures
+pub returns-else-may_speak_of : goal.returns-else-may_speak_of
+returns-else-may_speak_of g c =
+    subst (λ mask. g.S.TextSink.says c.args.out.now (text_by mask c.args.self.message.now) c.say.new.out)
+    (sym (c.may_speak_of.ensures.masked c.if-may_speak_of.false)) c.say.ensures

@@ -16,6 +16,7 @@ returns-in_ok-credit_once-clause-ok c =
       answered = c.self.inside.answered.entries;
       credits = c.self.inside.credits.entries;
       requests = c.self.inside.requests.entries;
+      functional = c.self.inside.functional.keys;
     } in
     let new : FinderValue = record {
       askers = c.self.inside.askers;
@@ -23,6 +24,7 @@ returns-in_ok-credit_once-clause-ok c =
       answered = c.credit_once.new.answered.entries;
       credits = c.credit_once.new.credits.entries;
       requests = c.self.inside.requests.entries;
+      functional = c.self.inside.functional.keys;
     } in
     let to = ap (λ n. credited_to (slice_index_or c.self.inside.askers service None) unit (n == slice_index c.self.inside.askings service))
     (sym c.last_answered.ensures)
@@ -34,6 +36,7 @@ returns-in_ok-credit_once-clause-ok c =
       askers = refl;
       askings = refl;
       answered = c.in_ok-credit_once.ensures.number;
+      places = c.in_ok-credit_once.ensures.place;
       credits = c.in_ok-credit_once.ensures.count;
       requests = refl;
     }))

@@ -2,7 +2,8 @@
 use Rattle.std.proofs.Common.{◌≡◌, ◌<◌, ◌==◌, not, false, take, get_or, sym, ap, subst, ◌∙◌}
 use Rattle.uds_message.specs.Message.{sid}
 use Rattle.uds_rules.specs.Rule.{is_spoken_of, may_speak_of}
-use Rattle.uds_rules.proofs.FirstBytes.{first_is_noted, none_speaks, some_is_noted}
+use Rattle.uds_rules.proofs.FirstBytes.{first_is_noted, no_rule, none_speaks, some_is_noted}
+use Rattle.uds_rules.proofs.RuleOf.{none_made}
 use Rattle.uds_rules.proofs.rule_table.RuleTable.may_speak_of.Goals as goal
 
 pub returns-clause-value : goal.returns-clause-value
@@ -28,3 +29,12 @@ returns-clause-none c = λ off.
     ∙ some_is_noted 0 rules message)
     ∙ off in
     ap (λ rules. is_spoken_of rules message) (sym c.self.view_is) ∙ none_speaks rules message c.self.invariant.rules.each unmarked
+
+pub returns-clause-ruled : goal.returns-clause-ruled
+returns-clause-ruled c = λ off. no_rule c.args.self.now c.args.message.now (returns-clause-none c off)
+
+pub returns-clause-stays : goal.returns-clause-stays
+returns-clause-stays c = λ off. (none_made c.args.self.now c.args.message.now (returns-clause-ruled c off)).0
+
+pub returns-clause-masked : goal.returns-clause-masked
+returns-clause-masked c = λ off. (none_made c.args.self.now c.args.message.now (returns-clause-ruled c off)).1

@@ -1,5 +1,0 @@
-use Rattle.can_log.proofs.PaddedLines.{put_both}
-use Rattle.can_log.proofs.scanner.put_line.Goals as goal
-
-pub returns : goal.returns
-returns c = rw c.requires.feeds (put_both c.args.line.now c.args.bytes.now _ _ 195 c.copy_from_slice.ensures.after c.copy_from_slice-2.ensures.after)

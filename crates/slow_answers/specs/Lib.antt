@@ -1,0 +1,3 @@
+pub mod Waited
+pub mod Slowest
+pub mod Laws

@@ -1,0 +1,4 @@
+pub mod Left
+pub mod Repeated
+pub mod Echo
+pub mod Laws
