@@ -41,7 +41,7 @@ impl ReceptionStarts {
     }
 
     /// Where the reception of a direction began, if one stands.
-    fn of(&self, dir: Dir) -> Option<FramePlace>
+    pub fn of(&self, dir: Dir) -> Option<FramePlace>
         ensures { result ≡ reception_start self.now dir }
     {
         match dir {

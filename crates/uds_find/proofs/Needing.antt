@@ -10,11 +10,11 @@ use Rattle.std.specs.Prelude.{if◌then◌else◌, nat_le, ◌&&◌, ◌||◌}
 use Rattle.can_log.specs.Frame.{FrameValue}
 use Rattle.can_log.specs.declared.frame.Id.{Id}
 use Rattle.can_log.specs.declared.frame.Id.TheVariants as id
-use Rattle.uds_find.specs.Asking.{asks, is_asking, is_kept, request_count, HasKept}
+use Rattle.uds_find.specs.Asking.{asks, is_asking, is_kept, request_count, HasAsking, HasKept}
 use Rattle.uds_find.specs.Functional.{is_functional_frame}
 use Rattle.uds_find.specs.Credit.{answers_from, credit, credits, credits_after, credit_count, is_same, is_same_pair, HasCredit}
 use Rattle.uds_find.specs.Finding.{IsTally}
-use Rattle.uds_find.specs.Laws.{AskingIsKept, AsksLast, CreditHasAsking, FirstCreditIsCredit, NeedHasKept, TesterIsAnother}
+use Rattle.uds_find.specs.Laws.{AskingIsKept, AsksLast, CreditHasAsking, FirstCreditIsCredit, NeedHasAsking, NeedHasKept, TesterIsAnother}
 use Rattle.uds_find.specs.Tester.{IsTesterBeside, asking_partner, partner_of}
 use Rattle.uds_find.specs.declared.pair.IdPair.{IdPair}
 use Rattle.uds_find.proofs.Asking.{credit_is_asked}
@@ -117,6 +117,24 @@ need_has_kept past frame (inr (inr (inl (pair, is, none)))) = credited-kept past
 need_has_kept past frame (inr (inr (inr (service, is, none)))) =
     let to = credited-some (answers_from service frame.id frame) (credit past frame) is in
     credited-kept past frame to.0 to.1
+
+-- ---- some frame asks, where the last one is not functional
+
+last-asks : (past : List FrameValue) (frame : FrameValue) → asks frame ≡ true → HasAsking (past ++ frame ∷ [])
+last-asks past frame asking =
+    omega (arith, sum_by_push (λ one. if asks one then 1 else 0) past frame, ap {B = ℕ} (λ b. if b then 1 else 0) asking)
+
+credited-asked : (past : List FrameValue) (frame : FrameValue) (pair : IdPair) → credit past frame ≡ Some pair → HasAsking (past ++ frame ∷ [])
+credited-asked past frame pair is =
+    omega (arith, sum_by_push (λ one. if asks one then 1 else 0) past frame, credited-asks past frame pair is)
+
+pub need_has_asking : NeedHasAsking
+need_has_asking past frame apart (inl (asking, none)) = last-asks past frame asking
+need_has_asking past frame apart (inr (inl (functional, none))) = absurd (cc (sym functional ∙ apart))
+need_has_asking past frame apart (inr (inr (inl (pair, is, none)))) = credited-asked past frame pair is
+need_has_asking past frame apart (inr (inr (inr (service, is, none)))) =
+    let to = credited-some (answers_from service frame.id frame) (credit past frame) is in
+    credited-asked past frame to.0 to.1
 
 -- ---- a tester is another
 

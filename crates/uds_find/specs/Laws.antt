@@ -7,7 +7,7 @@ use Rattle.isotp_pdu.specs.Layout.{single}
 use Rattle.isotp_pdu.specs.Reading.{layout_of}
 use Rattle.uds_find.specs.Asking.{HasAsking, HasKept, NeedsMemory}
 use Rattle.uds_find.specs.Credit.{answers_from, asks_for, credit, is_same, HasCredit, IsFirstCredit}
-use Rattle.uds_find.specs.Functional.{is_functional, is_functional_identifier}
+use Rattle.uds_find.specs.Functional.{is_functional, is_functional_frame, is_functional_identifier}
 use Rattle.uds_find.specs.Mention.{mention_of}
 use Rattle.uds_find.specs.Tester.{IsUnitWithTester}
 use Rattle.uds_find.specs.declared.mention.Mention.TheVariants.{Asks, Answers}
@@ -59,6 +59,11 @@ CreditHasAsking = (frames : List FrameValue) → HasCredit frames → HasAsking 
 -- what is kept grows only where the identifier of some frame is kept
 abbrev pub NeedHasKept : Type 0
 NeedHasKept = (past : List FrameValue) (frame : FrameValue) → NeedsMemory past frame → HasKept (past ++ frame ∷ [])
+
+-- with a frame that is not functional it grows only where some frame asks
+abbrev pub NeedHasAsking : Type 0
+NeedHasAsking = (past : List FrameValue) (frame : FrameValue) → is_functional_frame frame ≡ false → NeedsMemory past frame
+    → HasAsking (past ++ frame ∷ [])
 
 -- where a frame asks, its identifier is kept
 abbrev pub AskingIsKept : Type 0

@@ -1,7 +1,7 @@
 //! What holds of what frames say and of credits, whatever counts them. Each law is its contract; a call does nothing.
 
 ghost use Rattle.uds_find.specs.Laws.{AskingIsKept, CreditHasAsking, CreditIsAsked, FirstCreditIsCredit, FunctionalIsIdentifier};
-ghost use Rattle.uds_find.specs.Laws.{KeepAliveSaysNothing, NeedHasKept, PendingReplySaysNothing, SecondAnswerHasNoCredit, TesterIsAnother};
+ghost use Rattle.uds_find.specs.Laws.{KeepAliveSaysNothing, NeedHasAsking, NeedHasKept, PendingReplySaysNothing, SecondAnswerHasNoCredit, TesterIsAnother};
 
 /// A keep-alive asks for nothing.
 pub fn keep_alive_says_nothing()
@@ -37,6 +37,11 @@ pub fn credit_has_asking()
 /// What is kept grows only where the identifier of some frame is kept.
 pub fn need_has_kept()
     ensures { NeedHasKept }
+{}
+
+/// With a frame that is not functional, what is kept grows only where some frame asks.
+pub fn need_has_asking()
+    ensures { NeedHasAsking }
 {}
 
 /// Where a frame asks, its identifier is kept.
