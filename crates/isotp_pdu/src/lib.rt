@@ -143,6 +143,7 @@ fn is_can_dl(len: usize) -> bool
 }
 
 /// A single frame (ISO 15765-2, section 9.6.2).
+#[inline(always)]
 fn single_of(bytes: &[u8]) -> Result<Pdu<'_>, PduFault>
     requires { 0 < length bytes.now }
     ensures { layout_seen result ≡ Spec.single_of bytes.now }
@@ -162,6 +163,7 @@ fn single_of(bytes: &[u8]) -> Result<Pdu<'_>, PduFault>
 }
 
 /// A first frame (section 9.6.3).
+#[inline(always)]
 fn first_of(bytes: &[u8]) -> Result<Pdu<'_>, PduFault>
     requires { length bytes.now ≤ 64 }
     ensures { layout_seen result ≡ Spec.first_of bytes.now }
@@ -177,6 +179,7 @@ fn first_of(bytes: &[u8]) -> Result<Pdu<'_>, PduFault>
 }
 
 /// The announced length is in 12 bits of the first two bytes.
+#[inline(always)]
 fn short_first_of(bytes: &[u8]) -> Result<Pdu<'_>, PduFault>
     requires long { 2 ≤ length bytes.now }
     requires few { length bytes.now ≤ 64 }
