@@ -111,16 +111,17 @@ def frames_carrying(frames, p):
 def missing_answers(messages):
     """The row of each request without an answer, by the item of the request that comes next; that of the last request by None."""
     requests = [row for row in messages if row.kind == REQUEST]
-    answered = {row.item for row in messages if row.kind in REPLIES}
+    answered, promised = ({row.item for row in messages if row.kind in kinds} for kinds in (REPLIES, ["pending"]))
     later = [*(row.item for row in requests[1:]), None]
-    return {item: no_answer(row) for row, item in zip(requests, later) if row.item not in answered}
+    return {item: no_answer(row, row.item in promised) for row, item in zip(requests, later) if row.item not in answered}
 
 
-def no_answer(request):
-    """Silent, where the request asked for that. One to all units need not concern this one, and needs no look."""
+def no_answer(request, is_promised):
+    """Silent, where the request asked for that. One to all units need not concern this one, and needs no look, unless this one said that
+    its answer would come."""
     if oracle.answer_text(oracle.Exchange(request.data, None)) == "silent":
         return NoAnswer(request.item, "silent")
-    return NoAnswer(request.item, NONE_OF_ALL if request.is_functional else "no answer")
+    return NoAnswer(request.item, NONE_OF_ALL if request.is_functional and not is_promised else "no answer")
 
 
 def faults_at(frames, p):
