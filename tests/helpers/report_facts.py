@@ -428,7 +428,7 @@ def facts_of(log, name=STANDARD_INPUT, refused=None, sides=SIDES, limit=GIBIBYTE
     kind, told, sentences = ("refused", refused.fault, ["before"]) if refused else state(log, frames, counts, rules)
     return Facts(
         names=2 * (name_text(name),),
-        sides=(sides[TESTER], sides[UNIT]),
+        sides=(sides[TESTER], sides.get(oracle.FUNCTIONAL), sides[UNIT]),
         blocks=blocks_told(frames[0].micros if frames else 0, rows),
         refused=refused.fault if refused else None,
         rules=[Rule(profiles.told_rule(rule), (f"{count}",)) for rule, count in zip(rules, profiles.spoken(rules, frames))],

@@ -127,7 +127,7 @@ PAGE = re.compile(
 # What is no fact has no name.
 FRONT = re.compile(
     r"(.*<title>)(?P<title>[^<]*)( - .*<style>\n)(?P<style>.*)(</style>\n.*<h1>)(?P<name>[^<]*)(</h1>\n.*>tester )(?P<tester>[0-9A-F]+)"
-    r"(<.*>unit )(?P<unit>[0-9A-F]+)(<.*)",
+    r"(?:(, functional )(?P<functional>[0-9A-F]+))?(<.*>unit )(?P<unit>[0-9A-F]+)(<.*)",
     re.DOTALL,
 )
 BLOCK = re.compile(
@@ -195,10 +195,10 @@ def read(page):
     front, words = FRONT.fullmatch(parts["front"]), set()
     if not front:
         raise ValueError(f"a front that can't be read: {parts['front']}")
-    words.update([("front", "", "#".join(front.group(1, 3, 5, 7, 9, 11))), ("help", "", parts["help"])])
+    words.update([("front", "", "#".join(filter(None, front.group(1, 3, 5, 7, 9, 11, 13)))), ("help", "", parts["help"])])
     facts = Facts(
         names=front.group("title", "name"),
-        sides=front.group("tester", "unit"),
+        sides=front.group("tester", "functional", "unit"),
         blocks=[block_of(piece, words) for piece in pieces(BLOCK, parts["blocks"])],
         refused=stop_of(parts["stop"], words),
         rules=rules_of(parts["rules"], words),

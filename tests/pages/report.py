@@ -78,6 +78,7 @@ OPTIONS = [
     (["--tester", "7E8", "--unit", "7E0"], {TESTER: "7E8", UNIT: "7E0"}, oracle.GIBIBYTE),
     (["--tester", "18da10f1"], {TESTER: "18DA10F1", UNIT: "7E8"}, oracle.GIBIBYTE),
     (["--tester=000007E0", "--unit=000007E8"], {TESTER: "000007E0", UNIT: "000007E8"}, oracle.GIBIBYTE),
+    (["--functional", "18db33f1"], {**oracle.SIDES, oracle.FUNCTIONAL: "18DB33F1"}, oracle.GIBIBYTE),
     ([f"--limit={len(VIN)}"], oracle.SIDES, len(VIN)),
     (["--limit", f"{len(VIN) - 1}"], oracle.SIDES, len(VIN) - 1),
     (["--limit", "1"], oracle.SIDES, 1),

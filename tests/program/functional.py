@@ -135,6 +135,17 @@ def on_pages(cases):
         cases.report(f"without an answer: {name}", [] if row in page and count in page and (look in page) == (log != none) else [f"{page}"])
 
 
+def on_fronts(cases):
+    """The front of a page names the identifier, where there is one."""
+    for name in ("one.log", "other.log"):
+        Path(name).write_bytes(logged("7DF#023E00", "7E8#027E00"))
+    for name, given in [("one log", ["one.log"]), ("two logs", ["one.log", "other.log"])]:
+        for options, told in [(TO_ALL, b"tester 7E0, functional 7DF"), (["--functional", "18DB33F1"], b"tester 7E0, functional 18DB33F1"), ([], b"tester 7E0")]:
+            page = cases.run(["report", *options, *given]).output
+            line = b'<p class="ids"><span class="T">%s</span> <span class="U">unit 7E8</span></p>\n' % told
+            cases.report(f"the identifiers of {name}: {' '.join(options) or 'no option'}", [] if line in page else [f"{page}"])
+
+
 def download(cases):
     """Blocks of a download with a keep-alive between all their frames, which a profile leaves out: nothing of it is seen."""
     frames = []
@@ -222,7 +233,7 @@ def main():
     cases = Cases(os.path.abspath(sys.argv[1]), sys.argv[2:])
     with tempfile.TemporaryDirectory() as folder:
         os.chdir(folder)
-        cases.each([words, units, beside_receptions, one_session, on_pages, download, at_random, found_on_buses])
+        cases.each([words, units, beside_receptions, one_session, on_pages, on_fronts, download, at_random, found_on_buses])
         os.chdir("/")
     cases.end()
 

@@ -29,6 +29,7 @@ fn title(rules: &Rules) -> Title<'_> {
         left: b"log",
         right: b"canonical",
         tester: Id::Std(0x7E0),
+        functional: None,
         unit: Id::Std(0x7E8),
         rules,
     }

@@ -59,8 +59,8 @@ pub returns-in-Hold-clause-next : goal.returns-in-Hold-clause-next
 returns-in-Hold-clause-next c = λ M to_all judged item alone waits silence.
     let x = sent c.args.message in
     let quiet = still (number_after M x) (open_number_if_any M) c.args.message.step c.in-Hold.is in
-    let asks : is_request_step (step_after M x) ≡ false = ap is_request_step (sym judged) ∙ quiet.1.0 in
-    let is_none : is_exchange_step (step_after M x) ≡ false = ap is_exchange_step (sym judged) ∙ quiet.1.1 in
+    let asks : is_request_step (step_after M x) ≡ false = ap is_request_step (sym judged) ∙ quiet.1 in
+    let is_none : is_exchange_step (step_after M x) ≡ false = ap is_exchange_step (sym judged) ∙ quiet.2 in
     record {
       waits = waits ∙ sym (open_number_goes_on M x ∙ ap (λ (s : Step). open_number_after_step s (number_after M x) (open_number_if_any M)) (sym judged) ∙ quiet.0);
       silence = subst (λ b. IsSilence (M ++ x ∷ []) b c.args.self.now.silence) (ap (λ (b : Bool). if b then c.args.extent.is_functional else to_all) (sym is_none))
