@@ -140,12 +140,12 @@ MARK = rb"0-9A-Za-z\-./:_"
 
 
 def row_told(origin, row, is_brief=False):
-    """A row as the page has it, with times since this one. In a block that is folded at first a message that needs no look is brief."""
+    """A row as the page has it, with times since this one. In a block that is folded at first what needs no look is brief."""
     match row:
         case Message():
             return message_told(origin, row, is_brief and row.kind not in LOOKS)
         case NoAnswer():
-            return Row(row.kind, None, f"{row.item}", False, (), "", UNIT, False, {"to": f"{row.item}"})
+            return Row(row.kind, None, f"{row.item}", False, (), "", UNIT, is_brief and row.kind not in LOOKS, {"to": f"{row.item}"})
         case Dropped():
             return lost_told("dropped", target(row), at(origin, row.entry), oracle.SENDERS[row.entry.direction], {"reason": row.reason})
         case Ended():

@@ -90,6 +90,8 @@ BRIEF_KINDS = {
     "positive": Kind("ok", "", rf"&\#8592; positive {BRIEF_DATA} after (?P<after>{MILLISECONDS})"),
     "pending": Kind("p", "", rf"&\#8592; pending {BRIEF_DATA} after (?P<after>{MILLISECONDS})"),
     "keep-alive": Kind("p", "", rf"keep-alive {BRIEF_TO_ALL}{BRIEF_DATA} &\#8594;"),
+    "silent": Kind("p", "", r"silent: item (?P<to>\d+) (?P<words>[^<]+)"),
+    "no answer (all units)": Kind("p", "", r"no answer to item (?P<to>\d+), which went to all units"),
 }
 MESSAGES = ("request", "positive", "negative", "pending", "keep-alive", "stray")
 SIDES = {"t": "tester", "u": "unit"}
