@@ -408,7 +408,7 @@ def functional_logs():
         ("inside a reception", [FIRST, "7DF#023E00", OUT_OF_ORDER]),
         ("frames of several, dropped", ["7DF#300000", "7DF#100A22F190414243", "7DF#2144454647", UNKNOWN.replace("7E8", "7DF")]),
         ("one of CAN FD", ["7DF##000093E8011223344556677"]),
-        ("in folded blocks", 1200 * ["7DF#023E00", "7E8#027E00"] + 30 * ["7DF#023E80", "7DF#021003"]),
+        ("in folded blocks", 1200 * ["7DF#023E00", "7E8#027E00"] + 30 * ["7DF#023E80", "7DF#021003", "7DF#021083", "7DF#0322F190", "7E8#037F2278"]),
     ]:
         yield f"to all units: {name}", log_of(*frames), sides
 
