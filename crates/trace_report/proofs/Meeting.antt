@@ -104,9 +104,9 @@ silence_answered M sent to_all silence is =
         elim (cases_Bool (is_tester_request sent)) [
           | inl asks ↦ absurd cc
           | inr apart ↦ elim (cases_Bool (is_answer_to request sent)) [
-              | inl e ↦ rw (apart, e) tt
-              | inr e ↦ absurd (elim (cases_Bool (is_pending_reply_to request sent)) [ inl q ↦ cc | inr q ↦ cc ])
-            ]
+            | inl e ↦ rw (apart, e) tt
+            | inr e ↦ absurd (elim (cases_Bool (is_pending_reply_to request sent)) [ inl q ↦ cc | inr q ↦ cc ])
+          ]
         ]
 
 -- behind a pending reply a final answer is due, unless the request asked for none
