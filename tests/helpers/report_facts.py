@@ -111,16 +111,17 @@ def frames_carrying(frames, p):
 def missing_answers(messages):
     """The row of each request without an answer, by the item of the request that comes next; that of the last request by None."""
     requests = [row for row in messages if row.kind == REQUEST]
-    answered = {row.item for row in messages if row.kind in REPLIES}
+    answered, promised = ({row.item for row in messages if row.kind in kinds} for kinds in (REPLIES, ["pending"]))
     later = [*(row.item for row in requests[1:]), None]
-    return {item: no_answer(row) for row, item in zip(requests, later) if row.item not in answered}
+    return {item: no_answer(row, row.item in promised) for row, item in zip(requests, later) if row.item not in answered}
 
 
-def no_answer(request):
-    """Silent, where the request asked for that. One to all units need not concern this one, and needs no look."""
+def no_answer(request, is_promised):
+    """Silent, where the request asked for that. One to all units need not concern this one, and needs no look, unless this one said that
+    its answer would come."""
     if oracle.answer_text(oracle.Exchange(request.data, None)) == "silent":
         return NoAnswer(request.item, "silent")
-    return NoAnswer(request.item, NONE_OF_ALL if request.is_functional else "no answer")
+    return NoAnswer(request.item, NONE_OF_ALL if request.is_functional and not is_promised else "no answer")
 
 
 def faults_at(frames, p):
@@ -139,12 +140,12 @@ MARK = rb"0-9A-Za-z\-./:_"
 
 
 def row_told(origin, row, is_brief=False):
-    """A row as the page has it, with times since this one. In a block that is folded at first a message that needs no look is brief."""
+    """A row as the page has it, with times since this one. In a block that is folded at first what needs no look is brief."""
     match row:
         case Message():
             return message_told(origin, row, is_brief and row.kind not in LOOKS)
         case NoAnswer():
-            return Row(row.kind, None, f"{row.item}", False, (), "", UNIT, False, {"to": f"{row.item}"})
+            return Row(row.kind, None, f"{row.item}", False, (), "", UNIT, is_brief and row.kind not in LOOKS, {"to": f"{row.item}"})
         case Dropped():
             return lost_told("dropped", target(row), at(origin, row.entry), oracle.SENDERS[row.entry.direction], {"reason": row.reason})
         case Ended():
@@ -427,7 +428,7 @@ def facts_of(log, name=STANDARD_INPUT, refused=None, sides=SIDES, limit=GIBIBYTE
     kind, told, sentences = ("refused", refused.fault, ["before"]) if refused else state(log, frames, counts, rules)
     return Facts(
         names=2 * (name_text(name),),
-        sides=(sides[TESTER], sides[UNIT]),
+        sides=(sides[TESTER], sides.get(oracle.FUNCTIONAL), sides[UNIT]),
         blocks=blocks_told(frames[0].micros if frames else 0, rows),
         refused=refused.fault if refused else None,
         rules=[Rule(profiles.told_rule(rule), (f"{count}",)) for rule, count in zip(rules, profiles.spoken(rules, frames))],

@@ -90,6 +90,8 @@ BRIEF_KINDS = {
     "positive": Kind("ok", "", rf"&\#8592; positive {BRIEF_DATA} after (?P<after>{MILLISECONDS})"),
     "pending": Kind("p", "", rf"&\#8592; pending {BRIEF_DATA} after (?P<after>{MILLISECONDS})"),
     "keep-alive": Kind("p", "", rf"keep-alive {BRIEF_TO_ALL}{BRIEF_DATA} &\#8594;"),
+    "silent": Kind("p", "", r"silent: item (?P<to>\d+) (?P<words>[^<]+)"),
+    "no answer (all units)": Kind("p", "", r"no answer to item (?P<to>\d+), which went to all units"),
 }
 MESSAGES = ("request", "positive", "negative", "pending", "keep-alive", "stray")
 SIDES = {"t": "tester", "u": "unit"}
@@ -127,7 +129,7 @@ PAGE = re.compile(
 # What is no fact has no name.
 FRONT = re.compile(
     r"(.*<title>)(?P<title>[^<]*)( - .*<style>\n)(?P<style>.*)(</style>\n.*<h1>)(?P<name>[^<]*)(</h1>\n.*>tester )(?P<tester>[0-9A-F]+)"
-    r"(<.*>unit )(?P<unit>[0-9A-F]+)(<.*)",
+    r"(?:(, functional )(?P<functional>[0-9A-F]+))?(<.*>unit )(?P<unit>[0-9A-F]+)(<.*)",
     re.DOTALL,
 )
 BLOCK = re.compile(
@@ -195,10 +197,10 @@ def read(page):
     front, words = FRONT.fullmatch(parts["front"]), set()
     if not front:
         raise ValueError(f"a front that can't be read: {parts['front']}")
-    words.update([("front", "", "#".join(front.group(1, 3, 5, 7, 9, 11))), ("help", "", parts["help"])])
+    words.update([("front", "", "#".join(filter(None, front.group(1, 3, 5, 7, 9, 11, 13)))), ("help", "", parts["help"])])
     facts = Facts(
         names=front.group("title", "name"),
-        sides=front.group("tester", "unit"),
+        sides=front.group("tester", "functional", "unit"),
         blocks=[block_of(piece, words) for piece in pieces(BLOCK, parts["blocks"])],
         refused=stop_of(parts["stop"], words),
         rules=rules_of(parts["rules"], words),

@@ -78,6 +78,7 @@ OPTIONS = [
     (["--tester", "7E8", "--unit", "7E0"], {TESTER: "7E8", UNIT: "7E0"}, oracle.GIBIBYTE),
     (["--tester", "18da10f1"], {TESTER: "18DA10F1", UNIT: "7E8"}, oracle.GIBIBYTE),
     (["--tester=000007E0", "--unit=000007E8"], {TESTER: "000007E0", UNIT: "000007E8"}, oracle.GIBIBYTE),
+    (["--functional", "18db33f1"], {**oracle.SIDES, oracle.FUNCTIONAL: "18DB33F1"}, oracle.GIBIBYTE),
     ([f"--limit={len(VIN)}"], oracle.SIDES, len(VIN)),
     (["--limit", f"{len(VIN) - 1}"], oracle.SIDES, len(VIN) - 1),
     (["--limit", "1"], oracle.SIDES, 1),
@@ -393,6 +394,12 @@ def functional_logs():
         ("answered", ["7DF#023E00", "7E8#027E00"]),
         ("refused", ["7DF#0210FF", "7E8#037F1012"]),
         ("without an answer", ["7DF#023E00"]),
+        ("pending, and without an answer", ["7DF#023E00", "7E8#037F3E78"]),
+        ("pending, and then answered", ["7DF#023E00", "7E8#037F3E78", "7E8#027E00"]),
+        ("pending, and then the next one, of which nothing is said", ["7DF#023E00", "7E8#037F3E78", "7DF#023E00"]),
+        ("pending of another service, which is a stray", ["7DF#023E00", "7E8#037F2278"]),
+        ("pending, and a keep-alive behind", ["7DF#0322F190", "7E8#037F2278", "7DF#023E80"]),
+        ("silent, as it asks, and pending", ["7DF#021083", "7E8#037F1078"]),
         ("silent, as it asks", ["7DF#021083"]),
         ("a keep-alive of no exchange", ["7DF#023E80"]),
         ("a stray", ["7DF#0162"]),
@@ -401,7 +408,7 @@ def functional_logs():
         ("inside a reception", [FIRST, "7DF#023E00", OUT_OF_ORDER]),
         ("frames of several, dropped", ["7DF#300000", "7DF#100A22F190414243", "7DF#2144454647", UNKNOWN.replace("7E8", "7DF")]),
         ("one of CAN FD", ["7DF##000093E8011223344556677"]),
-        ("in folded blocks", 1200 * ["7DF#023E00", "7E8#027E00"] + 30 * ["7DF#023E80", "7DF#021003"]),
+        ("in folded blocks", 1200 * ["7DF#023E00", "7E8#027E00"] + 30 * ["7DF#023E80", "7DF#021003", "7DF#021083", "7DF#0322F190", "7E8#037F2278"]),
     ]:
         yield f"to all units: {name}", log_of(*frames), sides
 

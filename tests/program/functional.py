@@ -121,6 +121,31 @@ def one_session(cases):
     cases.case("only functional requests", cases.run(["normalise", "--strict", *TO_ALL], logged("7DF#023E00", "7E8#027E00")), DONE, None)
 
 
+def on_pages(cases):
+    """A request to all that the unit says nothing of needs no look on a page; one of which it says that its answer will come does, as one
+    to it alone."""
+    none, pending, alone = logged("7DF#0322F190"), logged("7DF#0322F190", "7E8#037F2278"), logged("7E0#0322F190", "7E8#037F2278")
+    for name, log, row, count in [
+        ("nothing is said", none, b"to item 1, which went to all units<", b"<div><dt>no answer (all units)</dt><dd>1</dd>"),
+        ("pending", pending, b"<b>no answer</b> <i>to item 1<", b'<div class="hot"><dt>no answer</dt><dd>1</dd>'),
+        ("pending, to the unit alone", alone, b"<b>no answer</b> <i>to item 1<", b'<div class="hot"><dt>no answer</dt><dd>1</dd>'),
+    ]:
+        page = cases.run(["report", *TO_ALL], log).output
+        look = b'<li>without an answer <b>1</b>: <a href="#i1">item 1</a>\n'
+        cases.report(f"without an answer: {name}", [] if row in page and count in page and (look in page) == (log != none) else [f"{page}"])
+
+
+def on_fronts(cases):
+    """The front of a page names the identifier, where there is one."""
+    for name in ("one.log", "other.log"):
+        Path(name).write_bytes(logged("7DF#023E00", "7E8#027E00"))
+    for name, given in [("one log", ["one.log"]), ("two logs", ["one.log", "other.log"])]:
+        for options, told in [(TO_ALL, b"tester 7E0, functional 7DF"), (["--functional", "18DB33F1"], b"tester 7E0, functional 18DB33F1"), ([], b"tester 7E0")]:
+            page = cases.run(["report", *options, *given]).output
+            line = b'<p class="ids"><span class="T">%s</span> <span class="U">unit 7E8</span></p>\n' % told
+            cases.report(f"the identifiers of {name}: {' '.join(options) or 'no option'}", [] if line in page else [f"{page}"])
+
+
 def download(cases):
     """Blocks of a download with a keep-alive between all their frames, which a profile leaves out: nothing of it is seen."""
     frames = []
@@ -208,7 +233,7 @@ def main():
     cases = Cases(os.path.abspath(sys.argv[1]), sys.argv[2:])
     with tempfile.TemporaryDirectory() as folder:
         os.chdir(folder)
-        cases.each([words, units, beside_receptions, one_session, download, at_random, found_on_buses])
+        cases.each([words, units, beside_receptions, one_session, on_pages, on_fronts, download, at_random, found_on_buses])
         os.chdir("/")
     cases.end()
 

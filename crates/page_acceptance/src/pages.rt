@@ -29,6 +29,7 @@ fn title(rules: &Rules) -> Title<'_> {
         left: b"log",
         right: b"canonical",
         tester: Id::Std(0x7E0),
+        functional: None,
         unit: Id::Std(0x7E8),
         rules,
     }
@@ -40,9 +41,19 @@ fn reported<R: Read + Drop, W: Write + Drop>(
     reader: R,
     writer: W,
 ) -> Result<(Result<Summary, Fault>, Writing<W>), ConfigFault> {
+    Ok(reported_by(alloc, &sides()?, reader, writer))
+}
+
+/// The same by this configuration.
+fn reported_by<R: Read + Drop, W: Write + Drop>(
+    alloc: Global,
+    config: &Config,
+    reader: R,
+    writer: W,
+) -> (Result<Summary, Fault>, Writing<W>) {
     let (mut reader, mut writer) = (Reading::new(reader), Writing::new(writer));
-    let answer = report(alloc, &sides()?, "", b"log", &mut reader, &mut writer);
-    Ok((answer, writer))
+    let answer = report(alloc, config, "", b"log", &mut reader, &mut writer);
+    (answer, writer)
 }
 
 /// What both of these logs say, and how many reads of the right one were made.
@@ -147,6 +158,33 @@ fn a_session_has_its_page(rt: HostRuntime) -> Result<(), Fail> {
     let begun = page_in(writer)?;
     assert!(rt; page.starts_with(begun.as_str()) && begun.contains(SHOWN[0]));
     assert!(rt; !begun.contains(SHOWN[1]));
+    Ok(())
+}
+
+/// Requests to all units: of one the unit says nothing, of the other that its answer will come.
+const TO_ALL: &str = "\
+(0.000000) can0 7DF#0322F190
+(0.001000) can0 7DF#0322F191
+(0.002000) can0 7E8#037F2278
+";
+
+#[test]
+fn requests_to_all_units_have_their_page(rt: HostRuntime) -> Result<(), Fail> {
+    let alloc = rt.alloc();
+    let config = sides()?.with_functional(Id::Std(0x7DF))?;
+    let (answer, writer) = reported_by(alloc, &config, TO_ALL.as_bytes(), Vec::new(alloc));
+    answer?;
+    let page = page_in(writer)?;
+    assert_page(
+        &rt,
+        &page,
+        &[
+            "tester 7E0, functional 7DF<",
+            "<b>no answer</b> <i>to item 1, which went to all units</i>",
+            "<b>no answer</b> <i>to item 2</i>",
+            "without an answer <b>1</b>: <a href=\"#i2\">item 2</a>",
+        ],
+    );
     Ok(())
 }
 

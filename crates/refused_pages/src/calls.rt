@@ -104,6 +104,7 @@ fn page_of_two(answer: &Result<Aligned<'_>, CompareFault>) -> Result<Page, Fail>
         left: b"log",
         right: b"canonical",
         tester: Id::Std(0x7E0),
+        functional: None,
         unit: Id::Std(0x7E8),
         rules: &rules,
     };

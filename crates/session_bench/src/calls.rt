@@ -107,6 +107,7 @@ pub(crate) fn run_pair_page(
         left: b"yesterday.log",
         right: b"today.log",
         tester: config.tester(),
+        functional: config.functional(),
         unit: config.unit(),
         rules: config.rules(),
     };

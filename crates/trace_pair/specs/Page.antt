@@ -56,7 +56,7 @@ pair_front title rules count =
     document_front ++ codes "<title>" ++ name_text title.left ++ codes " and " ++ name_text title.right ++ codes " - udsnorm report</title>\n<style>\n" ++ title.style
     ++ rules_style rules ++ codes "</style>\n</head>\n<body>\n<svg class=\"defs\" aria-hidden=\"true\" width=\"0\" height=\"0\">\n" ++ shapes_text
     ++ codes "</svg>\n<div class=\"page wide\">\n<header>\n<p class=\"brand\">udsnorm report</p>\n<h1>" ++ lettered_name A title.left ++ codes "<br>"
-    ++ lettered_name B title.right ++ codes "</h1>\n" ++ identifiers_text title.tester title.unit ++ links count ++ pair_cut_notice
+    ++ lettered_name B title.right ++ codes "</h1>\n" ++ identifiers_text title.tester title.functional title.unit ++ links count ++ pair_cut_notice
 
 -- All counts.
 

@@ -1,5 +1,5 @@
 -- What a page of two logs is made for.
-use Rattle.std.specs.Prelude.{ℕ, List}
+use Rattle.std.specs.Prelude.{ℕ, List, Option}
 use Rattle.can_log.specs.declared.frame.Id.{Id}
 use Rattle.trace_log.specs.Settings.{Settings}
 use Rattle.trace_pair.specs.declared.title.Title.{Title}
@@ -11,6 +11,7 @@ pub record TitleValue : Type 0 where
   pub left : List ℕ
   pub right : List ℕ
   pub tester : Id
+  pub functional : Option Id
   pub unit : Id
   pub rules : List RuleValue
 
@@ -21,6 +22,7 @@ title_of title = record {
   left = title.left.now;
   right = title.right.now;
   tester = title.tester;
+  functional = title.functional;
   unit = title.unit;
   rules = title.rules.now;
 }
@@ -32,6 +34,7 @@ title_for style left right settings = record {
   left = left;
   right = right;
   tester = settings.tester;
+  functional = settings.functional;
   unit = settings.unit;
   rules = settings.rules;
 }

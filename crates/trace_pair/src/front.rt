@@ -40,7 +40,11 @@ impl<'a> Part for PairFront<'a> {
                 "<br>",
                 LetteredName(PairLog::B, title.right),
                 "</h1>\n",
-                Identifiers(title.tester, title.unit),
+                Identifiers {
+                    tester: title.tester,
+                    functional: title.functional,
+                    unit: title.unit,
+                },
                 PairLinks(count),
                 PairCutNotice,
             ),

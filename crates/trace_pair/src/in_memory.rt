@@ -48,6 +48,7 @@ pub fn pair_page(
         left: left_name,
         right: right_name,
         tester: config.tester(),
+        functional: config.functional(),
         unit: config.unit(),
         rules: config.rules(),
     };

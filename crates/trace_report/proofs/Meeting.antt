@@ -5,7 +5,10 @@ use Rattle.std.specs.Prelude.{if◌then◌else◌, ◌&&◌, not}
 use Rattle.std.proofs.lemmas.Bool.{cases_Bool}
 use Rattle.direction.specs.Dir.{Message}
 use Rattle.direction.specs.declared.Dir.{Dir}
+use Rattle.direction.specs.declared.Dir.TheVariants as dir
 use Rattle.isotp_receive.specs.Channels.{dir_of, is_functional}
+use Rattle.isotp_receive.specs.declared.channel.Channel.{Channel}
+use Rattle.isotp_receive.specs.declared.channel.Channel.TheVariants as on
 use Rattle.isotp_receive.specs.declared.TheConstants.{MESSAGE_LIMIT}
 use Rattle.isotp_receive.specs.StandingReception.{stands}
 use Rattle.isotp_receive.specs.Trace.{Entry, role}
@@ -18,28 +21,30 @@ use Rattle.trace_run.specs.Seen.{IsSeen}
 use Rattle.trace_run.specs.declared.machine.Seen.{Seen}
 use Rattle.trace_report.specs.Rows as row
 use Rattle.uds_exchange.specs.Laws.{open_with}
-use Rattle.uds_exchange.specs.Meaning.{is_answer_to, is_tester_request}
+use Rattle.uds_exchange.specs.Meaning.{is_answer_to, is_pending_reply_to, is_tester_request}
 use Rattle.uds_exchange.specs.Judging.{number_after, sent, step_after}
 use Rattle.uds_exchange.specs.declared.judge.Judged.{Judged}
+use Rattle.uds_exchange.specs.declared.step.Step.{Step}
+use Rattle.uds_exchange.specs.declared.step.Step.TheVariants as becomes
 use Rattle.uds_exchange.specs.OneMessage.{step_if_open, step_of}
 use Rattle.uds_exchange.specs.Order.{open_request}
 use Rattle.uds_exchange.proofs.Promises.{open_request_goes_on}
-use Rattle.uds_message.specs.Message.{sid, is_final_for, is_pending_for}
+use Rattle.uds_message.specs.Message.{sid, is_final_for, is_pending_for, is_request, is_suppressing}
 use Rattle.uds_exchange.specs.Meaning.{is_from_tester}
 use Rattle.trace_canon.specs.FirstFrames.{first_frame, place_of}
 use Rattle.trace_canon.specs.declared.reception_starts.FramePlace.{FramePlace}
 use Rattle.trace_run.proofs.Promises.{CompletesJudged, completes_none, tells_no_message}
-use Rattle.trace_report.specs.Events.{asked_all_in, asked_in, closing_before, completes_request, completes_request_by}
-use Rattle.trace_report.specs.Events.{ended_rows, event_rows, frame_rows, frames_by, is_request_left, is_request_step}
+use Rattle.trace_report.specs.Events.{asked_all_in, asked_in, closing_before, completes_such, completes_such_by}
+use Rattle.trace_report.specs.Events.{ended_rows, event_rows, frame_rows, frames_by, is_exchange_step, is_such_left, is_request_step}
 use Rattle.trace_report.specs.Events.{ends_nothing, left_rows, verdict_rows}
 use Rattle.trace_report.specs.Roles.{role_of_step}
 use Rattle.trace_report.specs.Rows.{RowValue}
 use Rattle.trace_report.specs.Rows.{message as tells_message}
 use Rattle.trace_report.specs.declared.follower.Follower.{Follower}
 use Rattle.trace_report.specs.declared.extents.MessageExtent.{MessageExtent}
-use Rattle.trace_report.specs.Silences.{silence_of}
+use Rattle.trace_report.specs.Silences.{silence_behind_pending, silence_of, silence_of_asked}
 use Rattle.trace_report.specs.declared.row.Silence.{Silence}
-use Rattle.trace_report.specs.proving.Following.{IsSilence, KnowsMessages, dropped_by, dropped_rows}
+use Rattle.trace_report.specs.proving.Following.{IsSilence, KnowsMessages, OnlyTesterAsksAll, dropped_by, dropped_rows}
 use Rattle.trace_report.proofs.Steps.{asked_all_next, asked_next}
 
 -- a message that is no request begins no exchange
@@ -85,43 +90,101 @@ silence_still M sent to_all silence is same =
     by (Some request) same =
         elim (cases_Bool (is_answer_to request sent)) [ inl e ↦ rw (apart, e) tt | inr e ↦ rw (apart, e) same ]
 
+-- behind an answer none waits
+pub silence_answered : (M : List Message) (sent : Message) (to_all : Bool) (silence : Silence) → step_after M sent ≡ becomes.Answer
+    → IsSilence (M ++ sent ∷ []) to_all silence
+silence_answered M sent to_all silence is =
+    subst (λ (o : Option (List ℕ)). IfSome o (λ (request : List ℕ). silence ≡ silence_of to_all request)) (sym (open_request_goes_on M sent))
+    (by (open_request M) is)
+  where
+    by : (o : Option (List ℕ)) → step_of (option_map sid o) sent ≡ becomes.Answer
+        → IfSome (open_with o sent) (λ (request : List ℕ). silence ≡ silence_of to_all request)
+    by None is = absurd (elim (cases_Bool (is_tester_request sent)) [ inl asks ↦ cc | inr asks ↦ cc ])
+    by (Some request) is =
+        elim (cases_Bool (is_tester_request sent)) [
+          | inl asks ↦ absurd cc
+          | inr apart ↦ elim (cases_Bool (is_answer_to request sent)) [
+            | inl e ↦ rw (apart, e) tt
+            | inr e ↦ absurd (elim (cases_Bool (is_pending_reply_to request sent)) [ inl q ↦ cc | inr q ↦ cc ])
+          ]
+        ]
+
+-- behind a pending reply a final answer is due, unless the request asked for none
+pending_is_due : (to_all : Bool) (request : List ℕ) → silence_behind_pending (silence_of to_all request) ≡ silence_of false request
+pending_is_due to_all request =
+    elim (cases_Bool (is_suppressing request)) [ inl e ↦ rw e refl | inr e ↦ rw e (by to_all) ]
+  where
+    by : (to_all : Bool) → silence_behind_pending (silence_of_asked to_all) ≡ silence_of_asked false
+    by true = refl
+    by false = refl
+
+pub silence_pending : (M : List Message) (sent : Message) (to_all : Bool) (silence : Silence) → is_request_step (step_after M sent) ≡ false
+    → IsSilence M to_all silence → IsSilence (M ++ sent ∷ []) false (silence_behind_pending silence)
+silence_pending M sent to_all silence is same =
+    silence_still M sent false (silence_behind_pending silence) is (by (open_request M) same)
+  where
+    by : (o : Option (List ℕ)) → IfSome o (λ (request : List ℕ). silence ≡ silence_of to_all request)
+        → IfSome o (λ (request : List ℕ). silence_behind_pending silence ≡ silence_of false request)
+    by None same = tt
+    by (Some request) same = ap silence_behind_pending same ∙ pending_is_due to_all request
+
+-- the unit sent it
+sent_by_unit : (waiting : Option ℕ) (d : Dir) (bytes : List ℕ) → step_of waiting (d, bytes) ≡ becomes.Removed → d ≡ dir.Unit
+sent_by_unit waiting dir.Unit bytes is = refl
+sent_by_unit None dir.Tester bytes is = absurd (elim (cases_Bool (is_request bytes)) [ inl asks ↦ cc | inr asks ↦ cc ])
+sent_by_unit (Some service) dir.Tester bytes is = absurd (elim (cases_Bool (is_request bytes)) [ inl asks ↦ cc | inr asks ↦ cc ])
+
+pub pending_by_unit : (M : List Message) (sent : Message) → step_after M sent ≡ becomes.Removed → sent.0 ≡ dir.Unit
+pending_by_unit M sent is = sent_by_unit (option_map sid (open_request M)) sent.0 sent.1 is
+
+-- to the tester alone
+pub unit_asks_none : (channel : Channel) → OnlyTesterAsksAll (dir_of channel) (is_functional channel)
+unit_asks_none on.Tester = λ is. refl
+unit_asks_none on.Unit = λ is. refl
+unit_asks_none on.Functional = λ is. absurd (cc is)
+
 module _ (rules : List RuleValue) (T : List Entry) (e : Entry) where
+  -- a frame completes such a message as rules left of its own
+  completes_it : (such : Step → Bool) (judged : Judged) → CompletesJudged rules T e judged
+      → completes_such such MESSAGE_LIMIT rules T e ≡ such (step_after (messages_under rules MESSAGE_LIMIT T) (sent judged))
+  completes_it such judged completes =
+      ap (completes_such_by such MESSAGE_LIMIT rules T e) completes.did
+      ∙ ap (is_such_left such MESSAGE_LIMIT rules T e) completes.made
+      ∙ ap (λ (side : Dir). such (step_after (messages_under rules MESSAGE_LIMIT T) (side, judged.bytes.now))) completes.dir
+
   -- a frame of whose message rules left one: what is known with that is known of the trace
   pub met_next : (judged : Judged) (here was : ℕ) (to_all : Bool) (follower : Follower) → CompletesJudged rules T e judged
       → here ≡ e.micros → to_all ≡ is_functional e.channel → was ≡ asked_in MESSAGE_LIMIT rules T
       → KnowsMessages (messages_under rules MESSAGE_LIMIT T ++ sent judged ∷ [])
       (if is_request_step (step_after (messages_under rules MESSAGE_LIMIT T) (sent judged)) then here else was)
-      (if is_request_step (step_after (messages_under rules MESSAGE_LIMIT T) (sent judged)) then to_all else asked_all_in MESSAGE_LIMIT rules T) follower
+      (if is_exchange_step (step_after (messages_under rules MESSAGE_LIMIT T) (sent judged)) then to_all else asked_all_in MESSAGE_LIMIT rules T) follower
       → KnowsMessages (messages_under rules MESSAGE_LIMIT (T ++ e ∷ [])) (asked_in MESSAGE_LIMIT rules (T ++ e ∷ []))
       (asked_all_in MESSAGE_LIMIT rules (T ++ e ∷ [])) follower
   met_next judged here was to_all follower completes here_is to_all_is was_is known =
       let M = messages_under rules MESSAGE_LIMIT T in
-      let asks_then : completes_request MESSAGE_LIMIT rules T e ≡ is_request_step (step_after M (sent judged)) =
-      ap (completes_request_by MESSAGE_LIMIT rules T e) completes.did
-      ∙ ap (is_request_left MESSAGE_LIMIT rules T e) completes.made
-      ∙ ap (λ (side : Dir). is_request_step (step_after M (side, judged.bytes.now))) completes.dir in
       let asked_then : asked_in MESSAGE_LIMIT rules (T ++ e ∷ []) ≡ (if is_request_step (step_after M (sent judged)) then here else was) =
-      asked_next MESSAGE_LIMIT rules T e ∙ (λ i. if asks_then i then sym here_is i else sym was_is i) in
+      asked_next MESSAGE_LIMIT rules T e ∙ (λ i. if completes_it is_request_step judged completes i then sym here_is i else sym was_is i) in
       let all_then : asked_all_in MESSAGE_LIMIT rules (T ++ e ∷ [])
-      ≡ (if is_request_step (step_after M (sent judged)) then to_all else asked_all_in MESSAGE_LIMIT rules T) =
-      asked_all_next MESSAGE_LIMIT rules T e ∙ (λ i. if asks_then i then sym to_all_is i else asked_all_in MESSAGE_LIMIT rules T) in
+      ≡ (if is_exchange_step (step_after M (sent judged)) then to_all else asked_all_in MESSAGE_LIMIT rules T) =
+      asked_all_next MESSAGE_LIMIT rules T e
+      ∙ (λ i. if completes_it is_exchange_step judged completes i then sym to_all_is i else asked_all_in MESSAGE_LIMIT rules T) in
       subst (λ (l : List Message). KnowsMessages l (asked_in MESSAGE_LIMIT rules (T ++ e ∷ [])) (asked_all_in MESSAGE_LIMIT rules (T ++ e ∷ [])) follower)
       (sym completes.next)
       (subst (λ n. KnowsMessages (M ++ sent judged ∷ []) n (asked_all_in MESSAGE_LIMIT rules (T ++ e ∷ [])) follower) (sym asked_then)
       (subst (λ b. KnowsMessages (M ++ sent judged ∷ []) (if is_request_step (step_after M (sent judged)) then here else was) b follower) (sym all_then) known))
 
-  -- a frame of which rules leave no message completes no request
-  none_left_asks : (d : Dir) (made : Option (List ℕ)) → sent_as d made ++ [] ≡ [] → is_request_left MESSAGE_LIMIT rules T e made ≡ false
-  none_left_asks d None none = refl
-  none_left_asks d (Some bytes) none = cc none
+  -- a frame of which rules leave no message completes none
+  none_such : (such : Step → Bool) (d : Dir) (made : Option (List ℕ)) → sent_as d made ++ [] ≡ [] → is_such_left such MESSAGE_LIMIT rules T e made ≡ false
+  none_such such d None none = refl
+  none_such such d (Some bytes) none = cc none
 
-  asks_none : (d : Dir) (did : VerdictValue) → under rules (told_message d did) ≡ []
-      → completes_request_by MESSAGE_LIMIT rules T e did ≡ false
-  asks_none d (message bytes) none = none_left_asks d (made_of rules bytes) none
-  asks_none d began none = refl
-  asks_none d stored none = refl
-  asks_none d flowed none = refl
-  asks_none d (dropped reason) none = refl
+  completes_no_such : (such : Step → Bool) (d : Dir) (did : VerdictValue) → under rules (told_message d did) ≡ []
+      → completes_such_by such MESSAGE_LIMIT rules T e did ≡ false
+  completes_no_such such d (message bytes) none = none_such such d (made_of rules bytes) none
+  completes_no_such such d began none = refl
+  completes_no_such such d stored none = refl
+  completes_no_such such d flowed none = refl
+  completes_no_such such d (dropped reason) none = refl
 
   module _ (seen : Seen) (is : IsSeen rules T e seen) (none : seen.message ≡ None) where
     -- so what is known stays so
@@ -131,12 +194,12 @@ module _ (rules : List RuleValue) (T : List Entry) (e : Entry) where
         (asked_all_in MESSAGE_LIMIT rules (T ++ e ∷ [])) follower
     met_none follower known =
         let M = messages_under rules MESSAGE_LIMIT T in
-        let asks_not : completes_request MESSAGE_LIMIT rules T e ≡ false =
-        asks_none (dir_of e.channel) (verdict MESSAGE_LIMIT T e).verdict (tells_no_message rules T e seen is none) in
+        let none_then : (such : Step → Bool) → completes_such such MESSAGE_LIMIT rules T e ≡ false =
+        λ such. completes_no_such such (dir_of e.channel) (verdict MESSAGE_LIMIT T e).verdict (tells_no_message rules T e seen is none) in
         let asked_then : asked_in MESSAGE_LIMIT rules (T ++ e ∷ []) ≡ asked_in MESSAGE_LIMIT rules T =
-        asked_next MESSAGE_LIMIT rules T e ∙ ap (λ (b : Bool). if b then e.micros else asked_in MESSAGE_LIMIT rules T) asks_not in
+        asked_next MESSAGE_LIMIT rules T e ∙ ap (λ (b : Bool). if b then e.micros else asked_in MESSAGE_LIMIT rules T) (none_then is_request_step) in
         let all_then : asked_all_in MESSAGE_LIMIT rules (T ++ e ∷ []) ≡ asked_all_in MESSAGE_LIMIT rules T =
-        asked_all_next MESSAGE_LIMIT rules T e ∙ ap (λ (b : Bool). if b then is_functional e.channel else asked_all_in MESSAGE_LIMIT rules T) asks_not in
+        asked_all_next MESSAGE_LIMIT rules T e ∙ ap (λ (b : Bool). if b then is_functional e.channel else asked_all_in MESSAGE_LIMIT rules T) (none_then is_exchange_step) in
         subst (λ (l : List Message). KnowsMessages l (asked_in MESSAGE_LIMIT rules (T ++ e ∷ [])) (asked_all_in MESSAGE_LIMIT rules (T ++ e ∷ [])) follower)
         (sym (completes_none rules T e seen is none))
         (subst (λ n. KnowsMessages M n (asked_all_in MESSAGE_LIMIT rules (T ++ e ∷ [])) follower) (sym asked_then)

@@ -14,8 +14,8 @@ use Rattle.uds_exchange.specs.declared.step.Step.{Step}
 use Rattle.uds_exchange.specs.declared.step.Step.TheVariants as becomes
 use Rattle.uds_rules.specs.Rule.{RuleValue, made_of}
 use Rattle.trace_log.specs.Messages.{messages_under}
-use Rattle.trace_report.specs.Events.{asked_all_in, asked_in, closing_before, completes_request, ended_rows, frame_rows, ends_nothing}
-use Rattle.trace_report.specs.Events.{last_request_behind, left_rows, message_place, rows_behind, rows_of, verdict_rows, waiting_row}
+use Rattle.trace_report.specs.Events.{asked_all_in, asked_in, closing_before, completes_request, completes_such, ended_rows, frame_rows, ends_nothing}
+use Rattle.trace_report.specs.Events.{is_exchange_step, is_request_step, last_such_behind, left_rows, message_place, rows_behind, rows_of, verdict_rows, waiting_row}
 use Rattle.trace_report.specs.Roles.{role_of_step}
 use Rattle.trace_report.specs.Page.{first_time, last_time}
 use Rattle.trace_report.specs.Rows as row
@@ -36,26 +36,27 @@ rows_more limit rules past (x ∷ T) e =
 pub rows_next : (limit : ℕ) (rules : List RuleValue) (T : List Entry) (e : Entry) → rows_of limit rules (T ++ e ∷ []) ≡ rows_of limit rules T ++ frame_rows limit rules T e
 rows_next limit rules T e = rows_more limit rules [] T e
 
-request_more : {A : Type 0} (of : Entry → A) (limit : ℕ) (rules : List RuleValue) (earlier : A) (past T : List Entry) (e : Entry)
-    → last_request_behind of limit rules earlier past (T ++ e ∷ [])
-    ≡ (if completes_request limit rules (past ++ T) e then of e else last_request_behind of limit rules earlier past T)
-request_more of limit rules earlier past [] e =
-    ap (λ (before : List Entry). if completes_request limit rules before e then of e else earlier) (sym (append-nil past))
-request_more of limit rules earlier past (x ∷ T) e =
-    let asked = if completes_request limit rules past x then of x else earlier in
-    request_more of limit rules asked (past ++ x ∷ []) T e
-    ∙ ap (λ (before : List Entry). if completes_request limit rules before e then of e else last_request_behind of limit rules asked (past ++ x ∷ []) T)
+such_more : {A : Type 0} (such : Step → Bool) (of : Entry → A) (limit : ℕ) (rules : List RuleValue) (earlier : A) (past T : List Entry) (e : Entry)
+    → last_such_behind such of limit rules earlier past (T ++ e ∷ [])
+    ≡ (if completes_such such limit rules (past ++ T) e then of e else last_such_behind such of limit rules earlier past T)
+such_more such of limit rules earlier past [] e =
+    ap (λ (before : List Entry). if completes_such such limit rules before e then of e else earlier) (sym (append-nil past))
+such_more such of limit rules earlier past (x ∷ T) e =
+    let last = if completes_such such limit rules past x then of x else earlier in
+    such_more such of limit rules last (past ++ x ∷ []) T e
+    ∙ ap (λ (before : List Entry). if completes_such such limit rules before e then of e else last_such_behind such of limit rules last (past ++ x ∷ []) T)
     (append_assoc past (x ∷ []) T)
 
 -- the time at which its last request was complete
 pub asked_next : (limit : ℕ) (rules : List RuleValue) (T : List Entry) (e : Entry)
     → asked_in limit rules (T ++ e ∷ []) ≡ (if completes_request limit rules T e then e.micros else asked_in limit rules T)
-asked_next limit rules T e = request_more (λ e. e.micros) limit rules 0 [] T e
+asked_next limit rules T e = such_more is_request_step (λ e. e.micros) limit rules 0 [] T e
 
--- whether its last request went to all units
+-- whether the last message of its exchanges went to all units
 pub asked_all_next : (limit : ℕ) (rules : List RuleValue) (T : List Entry) (e : Entry)
-    → asked_all_in limit rules (T ++ e ∷ []) ≡ (if completes_request limit rules T e then is_functional e.channel else asked_all_in limit rules T)
-asked_all_next limit rules T e = request_more (λ e. is_functional e.channel) limit rules false [] T e
+    → asked_all_in limit rules (T ++ e ∷ [])
+    ≡ (if completes_such is_exchange_step limit rules T e then is_functional e.channel else asked_all_in limit rules T)
+asked_all_next limit rules T e = such_more is_exchange_step (λ e. is_functional e.channel) limit rules false [] T e
 
 -- the time of its last frame
 pub last_next : (earlier : ℕ) (T : List Entry) (e : Entry) → last_time earlier (T ++ e ∷ []) ≡ e.micros

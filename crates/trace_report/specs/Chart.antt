@@ -6,9 +6,10 @@ use Rattle.trace_report.specs.declared.row.MessagePlace.{MessagePlace}
 use Rattle.trace_report.specs.declared.roles.MessageRole.{MessageRole}
 use Rattle.trace_report.specs.Rows.{RowValue, message, no_answer, dropped, ended, unfinished}
 use Rattle.trace_report.specs.MessageRows.{message_row}
-use Rattle.trace_report.specs.BriefRows.{brief_message}
+use Rattle.trace_report.specs.BriefRows.{brief_message, brief_no_answer}
 use Rattle.trace_report.specs.MissingRows.{no_answer_row, dropped_row, ended_row, unfinished_row}
 use Rattle.trace_report.specs.declared.blocks.Blocks.{Blocks}
+use Rattle.trace_report.specs.declared.row.Silence.{Silence}
 use Rattle.trace_report.specs.Blocks.{begins_exchange, one_more_row, opening_text, is_brief}
 
 -- the row of a message that rules have left, in a block of brief rows or in another
@@ -16,11 +17,16 @@ abbrev pub message_text : List RuleValue → Bool → ℕ → MessageRole → Di
 message_text rules true origin is d place bytes = brief_message rules origin is d place bytes
 message_text rules false origin is d place bytes = message_row rules origin is d place bytes
 
+-- the row of an item without an answer, in a block of brief rows or in another
+abbrev pub no_answer_text : Bool → ℕ → Silence → List ℕ
+no_answer_text true number silence = brief_no_answer number silence
+no_answer_text false number silence = no_answer_row number silence
+
 -- the text of a row, in a block of brief rows or in another, where `origin` is the time of the first frame of the two
 -- sides
 abbrev pub row_text : List RuleValue → Bool → ℕ → RowValue → List ℕ
 row_text rules brief origin (message is d place bytes) = message_text rules brief origin is d place bytes
-row_text rules brief origin (no_answer number silence) = no_answer_row number silence
+row_text rules brief origin (no_answer number silence) = no_answer_text brief number silence
 row_text rules brief origin (dropped place d linked why) = dropped_row linked origin place d why
 row_text rules brief origin (ended place end) = ended_row true origin place end
 row_text rules brief origin (unfinished d line len) = unfinished_row true d line len

@@ -30,37 +30,52 @@ is_request_step becomes.Removed = false
 is_request_step becomes.Hold = false
 is_request_step becomes.Pass = false
 
--- the message that rules left of the one that the frame e completes after the frames T, if they left one, is a request
-abbrev pub is_request_left : ℕ → List RuleValue → List Entry → Entry → Option (List ℕ) → Bool
-is_request_left limit rules T e None = false
-is_request_left limit rules T e (Some bytes) = is_request_step (step_after (messages_under rules limit T) (dir_of e.channel, bytes))
+-- a message belongs to an exchange, where this is what becomes of it: it begins one, answers one, or says that the
+-- answer will be late
+abbrev pub is_exchange_step : Step → Bool
+is_exchange_step (becomes.Request service) = true
+is_exchange_step becomes.Answer = true
+is_exchange_step becomes.Removed = true
+is_exchange_step becomes.Hold = false
+is_exchange_step becomes.Pass = false
 
--- the frame e completes a request under rules after the frames T, where it does this there
-abbrev pub completes_request_by : ℕ → List RuleValue → List Entry → Entry → VerdictValue → Bool
-completes_request_by limit rules T e (message bytes) = is_request_left limit rules T e (made_of rules bytes)
-completes_request_by limit rules T e began = false
-completes_request_by limit rules T e stored = false
-completes_request_by limit rules T e flowed = false
-completes_request_by limit rules T e (dropped reason) = false
+-- the message that rules left of the one that the frame e completes after the frames T, if they left one, is such a
+-- one, by what becomes of it
+abbrev pub is_such_left : (Step → Bool) → ℕ → List RuleValue → List Entry → Entry → Option (List ℕ) → Bool
+is_such_left such limit rules T e None = false
+is_such_left such limit rules T e (Some bytes) = such (step_after (messages_under rules limit T) (dir_of e.channel, bytes))
+
+-- the frame e completes such a message under rules after the frames T, where it does this there
+abbrev pub completes_such_by : (Step → Bool) → ℕ → List RuleValue → List Entry → Entry → VerdictValue → Bool
+completes_such_by such limit rules T e (message bytes) = is_such_left such limit rules T e (made_of rules bytes)
+completes_such_by such limit rules T e began = false
+completes_such_by such limit rules T e stored = false
+completes_such_by such limit rules T e flowed = false
+completes_such_by such limit rules T e (dropped reason) = false
+
+-- the frame e completes such a message after the frames T
+abbrev pub completes_such : (Step → Bool) → ℕ → List RuleValue → List Entry → Entry → Bool
+completes_such such limit rules T e = completes_such_by such limit rules T e (verdict limit T e).verdict
 
 -- the frame e completes a request after the frames T
 abbrev pub completes_request : ℕ → List RuleValue → List Entry → Entry → Bool
-completes_request limit rules T e = completes_request_by limit rules T e (verdict limit T e).verdict
+completes_request limit rules T e = completes_such is_request_step limit rules T e
 
--- what is so of the last of these frames that completes a request, where the frames `past` came before them; `earlier`
--- where none of them does
-abbrev pub last_request_behind : {A : Type 0} → (Entry → A) → ℕ → List RuleValue → A → List Entry → List Entry → A
-last_request_behind of limit rules earlier past [] = earlier
-last_request_behind of limit rules earlier past (e ∷ rest) =
-    last_request_behind of limit rules (if completes_request limit rules past e then of e else earlier) (past ++ e ∷ []) rest
+-- what is so of the last of these frames that completes such a message, where the frames `past` came before them;
+-- `earlier` where none of them does
+abbrev pub last_such_behind : {A : Type 0} → (Step → Bool) → (Entry → A) → ℕ → List RuleValue → A → List Entry → List Entry → A
+last_such_behind such of limit rules earlier past [] = earlier
+last_such_behind such of limit rules earlier past (e ∷ rest) =
+    last_such_behind such of limit rules (if completes_such such limit rules past e then of e else earlier) (past ++ e ∷ []) rest
 
 -- the time at which the last request of a trace was complete; 0 where it has none
 abbrev pub asked_in : ℕ → List RuleValue → List Entry → ℕ
-asked_in limit rules T = last_request_behind (λ e. e.micros) limit rules 0 [] T
+asked_in limit rules T = last_such_behind is_request_step (λ e. e.micros) limit rules 0 [] T
 
--- the last request of a trace went to all units
+-- the last message of a trace that belongs to an exchange went to all units: so it is a request, and the unit has said
+-- nothing of it, not even that an answer will be late
 abbrev pub asked_all_in : ℕ → List RuleValue → List Entry → Bool
-asked_all_in limit rules T = last_request_behind (λ e. is_functional e.channel) limit rules false [] T
+asked_all_in limit rules T = last_such_behind is_exchange_step (λ e. is_functional e.channel) limit rules false [] T
 
 -- how many frames carry a message that a frame of this role completes, where this reception stands for its direction
 abbrev pub frames_by : Option StandingReception → FrameRole → ℕ
@@ -84,7 +99,7 @@ message_place limit rules T e bytes = record {
 }
 
 -- the row that tells that the request of the open exchange has no answer, if one is open after these messages, which
--- went to all units or to one
+-- need not concern this unit or does
 abbrev pub waiting_row : List Message → Bool → Option (List ℕ) → List RowValue
 waiting_row M to_all None = []
 waiting_row M to_all (Some request) = row.no_answer (open_number M) (silence_of to_all request) ∷ []

@@ -1,6 +1,6 @@
 -- The front of a report: what stands before its rows. All of it is fixed but the style, the name of the log, which
--- stands in it twice, and the two identifiers.
-use Rattle.std.specs.Prelude.{ℕ, ◌++◌, List, codes}
+-- stands in it twice, and the identifiers.
+use Rattle.std.specs.Prelude.{ℕ, ◌++◌, List, [], codes, Option, Some, None}
 use Rattle.can_log.specs.Canonical.{identifier_text}
 use Rattle.can_log.specs.declared.frame.Id.{Id}
 use Rattle.trace_log.specs.Settings.{Settings}
@@ -14,6 +14,7 @@ pub record PageTitleValue : Type 0 where
   pub style : List ℕ
   pub name : List ℕ
   pub tester : Id
+  pub functional : Option Id
   pub unit : Id
   pub max_bytes : ℕ
   pub rules : List RuleValue
@@ -24,6 +25,7 @@ page_title style name settings = record {
   style = style;
   name = name;
   tester = settings.tester;
+  functional = settings.functional;
   unit = settings.unit;
   max_bytes = settings.max_bytes;
   rules = settings.rules;
@@ -68,17 +70,22 @@ abbrev pub cut_notice : List ℕ
 cut_notice =
     codes "<p id=\"cut\" role=\"status\" hidden>This page has no end. What wrote it was stopped, or the file was cut, or the page is still loading: it tells nothing of the rest of the session.</p>\n</header>\n"
 
--- the two identifiers of a page, each by the name of its side
-abbrev pub identifiers_text : Id → Id → List ℕ
-identifiers_text tester unit =
-    codes "<p class=\"ids\"><span class=\"T\">tester " ++ identifier_text tester ++ codes "</span> <span class=\"U\">unit "
-    ++ identifier_text unit ++ codes "</span></p>\n"
+-- the identifier on which the tester asks all units, behind its own; nothing where there is none
+abbrev pub functional_text : Option Id → List ℕ
+functional_text None = []
+functional_text (Some functional) = codes ", functional " ++ identifier_text functional
 
--- the header of a page: the name of the log, the two identifiers, the links, and the notice
+-- the identifiers of a page, each by the name of its side
+abbrev pub identifiers_text : Id → Option Id → Id → List ℕ
+identifiers_text tester functional unit =
+    codes "<p class=\"ids\"><span class=\"T\">tester " ++ identifier_text tester ++ functional_text functional
+    ++ codes "</span> <span class=\"U\">unit " ++ identifier_text unit ++ codes "</span></p>\n"
+
+-- the header of a page: the name of the log, the identifiers, the links, and the notice
 abbrev pub header_text : PageTitleValue → List ℕ
 header_text title =
     codes "<div class=\"page\">\n<header>\n<p class=\"brand\">udsnorm report</p>\n<h1>" ++ name_text title.name ++ codes "</h1>\n"
-    ++ identifiers_text title.tester title.unit ++ page_links ++ cut_notice
+    ++ identifiers_text title.tester title.functional title.unit ++ page_links ++ cut_notice
 
 -- the start of the chart of a session, with the filter that shows only what needs attention
 abbrev pub session_start : List ℕ

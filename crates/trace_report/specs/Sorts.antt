@@ -49,6 +49,10 @@ sort_of_silence Suppressed = sort.Silent
 sort_of_silence ToAllUnits = sort.ToAllUnits
 sort_of_silence Unanswered = sort.Unanswered
 
+-- the row of an item without an answer needs attention, where this is why it has none
+abbrev pub silence_needs_attention : Silence → Bool
+silence_needs_attention silence = needs_attention (sort_of_silence silence)
+
 -- the sort of a row
 abbrev pub sort_of : RowValue → Sort
 sort_of (message is d place bytes) = sort_of_role is

@@ -1,17 +1,20 @@
-//! The rows of messages in blocks that are folded at first: one line of words each, without a shape.
+//! The rows of messages, and of items without an answer, in blocks that are folded at first: one line of words each,
+//! without a shape.
 
-ghost use Rattle.trace_report.specs.BriefRows.{brief_message};
+ghost use Rattle.trace_report.specs.BriefRows.{brief_message, brief_missing, brief_no_answer};
 
 use crate::message_rows::{MessageFront, say_message_row};
 use crate::message_words::After;
+use crate::missing_rows::{NoAnswerFront, say_missing_row, say_no_answer_row};
 use crate::roles::MessageRole;
-use crate::row::{MessagePlace, SentMessage};
-use crate::sorts::message_needs_attention;
+use crate::row::{MessagePlace, Missing, SentMessage, Silence};
+use crate::sorts::{message_needs_attention, silence_needs_attention};
 use crate::targets::Side;
+use direction::Dir;
 use shown_bytes::BriefData;
 use text_parts::{Part, When, say};
 use trace_io::TextSink;
-use trace_text::ServiceName;
+use trace_text::{Number, ServiceName};
 use uds_message::sid;
 use uds_rules::Rules;
 
@@ -100,6 +103,65 @@ impl<'a> Part for BriefWords<'a> {
             ),
             MessageRole::KeepAlive => say(out, ("keep-alive ", functional, data, " &#8594;")),
             MessageRole::Negative { .. } | MessageRole::Stray => {}
+        }
+    }
+}
+
+/// Says the row of what is missing in a block of brief rows, to which links lead.
+pub(crate) fn say_brief_missing<S: TextSink>(origin: u64, missing: Missing, out: &mut S)
+    ensures { S.says out.old (brief_missing origin missing) out.new }
+{
+    match missing {
+        Missing::NoAnswer { number, silence } => say_brief_no_answer(number, silence, out),
+        Missing::Dropped { .. } | Missing::Ended { .. } | Missing::Unfinished { .. } =>
+            say_missing_row(true, origin, missing, out),
+    }
+}
+
+/// Says the row of an item without an answer in a block of brief rows: one that needs attention has its full row there,
+/// too.
+fn say_brief_no_answer<S: TextSink>(number: u64, silence: Silence, out: &mut S)
+    ensures { S.says out.old (brief_no_answer number silence) out.new }
+{
+    if silence_needs_attention(silence) {
+        say_no_answer_row(number, silence, out);
+    } else {
+        say(
+            out,
+            (
+                NoAnswerFront(number, silence),
+                "<td class=\"",
+                Side(Dir::Unit),
+                "\">",
+                BriefSilence(number, silence),
+                "\n",
+            ),
+        );
+    }
+}
+
+/// The words of the brief row of an item without an answer, which needs no attention.
+#[derive(Clone, Copy)]
+struct BriefSilence(u64, Silence);
+
+impl Part for BriefSilence {
+    ghost use Rattle.trace_report.specs.BriefRows.{brief_silence};
+
+    ghost text = { λ words. brief_silence words.0 words.1 };
+
+    fn say<S: TextSink>(self, out: &mut S) {
+        let BriefSilence(number, silence) = self;
+        let item = Number(number);
+        match silence {
+            Silence::Suppressed => say(
+                out,
+                ("silent: item ", item, " asked for no positive answer"),
+            ),
+            Silence::ToAllUnits => say(
+                out,
+                ("no answer to item ", item, ", which went to all units"),
+            ),
+            Silence::Unanswered => {}
         }
     }
 }

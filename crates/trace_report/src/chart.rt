@@ -8,7 +8,7 @@ ghost use Rattle.trace_report.specs.proving.Following.{IsChartOf, row_if, rows_i
 
 use crate::block_fronts::Opening;
 use crate::blocks::{Blocks, begins_exchange, is_brief, no_blocks, one_more_row};
-use crate::brief_rows::say_brief_message;
+use crate::brief_rows::{say_brief_message, say_brief_missing};
 use crate::follower::NewRows;
 use crate::message_rows::say_message_row;
 use crate::missing_rows::say_missing_row;
@@ -107,6 +107,12 @@ fn say_row<S: TextSink>(rules: &Rules, brief: bool, origin: u64, row: SessionRow
                 say_message_row(rules, origin, sent, message, out);
             }
         }
-        SessionRow::Missing(missing) => say_missing_row(true, origin, missing, out),
+        SessionRow::Missing(missing) => {
+            if brief {
+                say_brief_missing(origin, missing, out);
+            } else {
+                say_missing_row(true, origin, missing, out);
+            }
+        }
     }
 }

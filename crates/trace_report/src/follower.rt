@@ -14,12 +14,12 @@ ghost use Rattle.trace_canon.specs.FirstFrames.{place_of};
 ghost use Rattle.trace_report.specs.Events.{closing_before, closing_rows, end_rows, ended_rows, frame_rows};
 ghost use Rattle.trace_report.specs.Roles.{role_of_step as role_by};
 ghost use Rattle.trace_report.specs.Rows.{message as tells_message, row_of};
-ghost use Rattle.trace_report.specs.proving.Following.{Follows, IsSilence, IsWaiting, MeetsMessage, dropped_rows, row_if, rows_in, unfinished_if};
+ghost use Rattle.trace_report.specs.proving.Following.{Follows, IsSilence, IsWaiting, MeetsMessage, OnlyTesterAsksAll, dropped_rows, row_if, rows_in, unfinished_if};
 
 use crate::extents::{MessageExtent, ReceptionExtents};
 use crate::roles::role_of_step;
 use crate::row::{MessagePlace, Missing, SentMessage, SessionRow, Silence};
-use crate::silences::silence_of;
+use crate::silences::{silence_behind_pending, silence_of};
 use direction::Dir;
 use isotp_receive::{Ended, Event, Pair, Verdict};
 use trace_canon::reception_starts::FramePlace;
@@ -99,7 +99,7 @@ impl Follower {
     ) -> (Option<SessionRow<'a>>, SessionRow<'a>)
         ensures extents { self.new.extents ≡ self.old.extents }
         ensures next { (M : List Message) (to_all : Bool) → IsJudgedAfter M message.entry → message.entry.item_number ≡ number_after M (sent message.entry)
-            → IsWaiting M self.old.waits → IsSilence M to_all self.old.silence
+            → OnlyTesterAsksAll message.entry.dir extent.is_functional → IsWaiting M self.old.waits → IsSilence M to_all self.old.silence
             → MeetsMessage M (sent message.entry) here extent.is_functional self.old.asked to_all self.new }
         ensures closing { (M : List Message) (to_all : Bool) → IsJudgedAfter M message.entry → IsWaiting M self.old.waits
             → IsSilence M to_all self.old.silence → row_if result.0 ≡ closing_before M to_all (step_after M (sent message.entry)) }
@@ -134,7 +134,11 @@ impl Follower {
                 self.waits = None;
                 (None, row)
             }
-            Step::Removed | Step::Hold | Step::Pass => (None, row),
+            Step::Removed => {
+                self.silence = silence_behind_pending(self.silence);
+                (None, row)
+            }
+            Step::Hold | Step::Pass => (None, row),
         }
     }
 

@@ -15,6 +15,7 @@ pub(crate) struct PageTitle<'a> {
     pub style: &'a str,
     pub name: &'a [u8],
     pub tester: Id,
+    pub functional: Option<Id>,
     pub unit: Id,
     pub max_bytes: u64,
     pub rules: &'a Rules,
@@ -140,7 +141,11 @@ impl<'a> Part for Header<'a> {
                 "<div class=\"page\">\n<header>\n<p class=\"brand\">udsnorm report</p>\n<h1>",
                 Name(title.name),
                 "</h1>\n",
-                Identifiers(title.tester, title.unit),
+                Identifiers {
+                    tester: title.tester,
+                    functional: title.functional,
+                    unit: title.unit,
+                },
                 "<p class=\"skip\"><a href=\"#verdict\">Verdict<span class=\"plain\">, at the end of this page</span></a> <a href=\"#session\">Session</a> <a href=\"#help\">How to read this page</a></p>\n",
                 CutNotice,
             ),
@@ -148,27 +153,53 @@ impl<'a> Part for Header<'a> {
     }
 }
 
-/// The two identifiers.
+/// The identifiers of both sides, and that on which the tester asks all units, where there is one.
 #[derive(Clone, Copy)]
-pub struct Identifiers(pub Id, pub Id);
+pub struct Identifiers {
+    pub tester: Id,
+    pub functional: Option<Id>,
+    pub unit: Id,
+}
 
 impl Part for Identifiers {
     ghost use Rattle.trace_report.specs.Front.{identifiers_text};
 
-    ghost text = { λ both. identifiers_text both.0 both.1 };
+    ghost text = { λ ids. identifiers_text ids.tester ids.functional ids.unit };
 
     fn say<S: TextSink>(self, out: &mut S) {
-        let Identifiers(tester, unit) = self;
+        let Identifiers {
+            tester,
+            functional,
+            unit,
+        } = self;
         say(
             out,
             (
                 "<p class=\"ids\"><span class=\"T\">tester ",
                 Identifier(tester),
+                FunctionalIdentifier(functional),
                 "</span> <span class=\"U\">unit ",
                 Identifier(unit),
                 "</span></p>\n",
             ),
         );
+    }
+}
+
+/// The identifier on which the tester asks all units, behind its own, where there is one.
+#[derive(Clone, Copy)]
+struct FunctionalIdentifier(Option<Id>);
+
+impl Part for FunctionalIdentifier {
+    ghost use Rattle.trace_report.specs.Front.{functional_text};
+
+    ghost text = { λ words. functional_text words.0 };
+
+    fn say<S: TextSink>(self, out: &mut S) {
+        match self.0 {
+            Some(functional) => say(out, (", functional ", Identifier(functional))),
+            None => {}
+        }
     }
 }
 

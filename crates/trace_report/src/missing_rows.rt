@@ -49,26 +49,42 @@ pub fn say_missing_row<S: TextSink>(linked: bool, origin: u64, missing: Missing,
 }
 
 /// Says the row of an item without an answer.
-fn say_no_answer_row<S: TextSink>(number: u64, silence: Silence, out: &mut S)
+pub(crate) fn say_no_answer_row<S: TextSink>(number: u64, silence: Silence, out: &mut S)
     ensures { S.says out.old (no_answer_row number silence) out.new }
 {
-    let front = RowFront {
-        class: NoAnswerClass(silence),
-        target: None,
-        item: ("<td>", Number(number)),
-        lines: (),
-        time: (),
-    };
-    let words = NoAnswerWords(number, silence);
     say(
         out,
         (
-            front,
+            NoAnswerFront(number, silence),
             CellFront(Dir::Unit),
-            words,
+            NoAnswerWords(number, silence),
             CellEnd(Dir::Unit, Arrow::Barred),
         ),
     );
+}
+
+/// What stands in front of it.
+#[derive(Clone, Copy)]
+pub(crate) struct NoAnswerFront(pub u64, pub Silence);
+
+impl Part for NoAnswerFront {
+    ghost use Rattle.trace_report.specs.MissingRows.{no_answer_front};
+
+    ghost text = { λ front. no_answer_front front.0 front.1 };
+
+    fn say<S: TextSink>(self, out: &mut S) {
+        let NoAnswerFront(number, silence) = self;
+        say(
+            out,
+            RowFront {
+                class: NoAnswerClass(silence),
+                target: None,
+                item: ("<td>", Number(number)),
+                lines: (),
+                time: (),
+            },
+        );
+    }
 }
 
 /// Where a frame stands, in a row to which links lead or not.

@@ -57,6 +57,7 @@ pub fn report<R: Source, W: Target>(
             style,
             name,
             tester: config.tester(),
+            functional: config.functional(),
             unit: config.unit(),
             max_bytes: config.max_bytes(),
             rules,

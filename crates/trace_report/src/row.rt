@@ -41,7 +41,7 @@ pub enum SessionRow<'a> {
 pub enum Silence {
     /// Its request asked for no positive one.
     Suppressed,
-    /// Its request went to all units, and need not concern this one.
+    /// Its request went to all units, and need not concern this one, which said nothing of it.
     ToAllUnits,
     /// One was due.
     Unanswered,

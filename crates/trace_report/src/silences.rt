@@ -18,3 +18,14 @@ pub(crate) fn silence_of(to_all: bool, request: &[u8]) -> Silence
         Silence::Unanswered
     }
 }
+
+/// Why a request has no final answer behind a response pending, by why it would have none without that: the unit spoke,
+/// so the request concerns it.
+pub(crate) fn silence_behind_pending(silence: Silence) -> Silence
+    ensures { result ≡ Spec.silence_behind_pending silence }
+{
+    match silence {
+        Silence::Suppressed => Silence::Suppressed,
+        Silence::ToAllUnits | Silence::Unanswered => Silence::Unanswered,
+    }
+}

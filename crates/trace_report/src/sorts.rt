@@ -100,6 +100,13 @@ fn sort_of_silence(silence: Silence) -> Sort
     }
 }
 
+/// Whether the row of an item without an answer needs attention.
+pub(crate) fn silence_needs_attention(silence: Silence) -> bool
+    ensures { result ≡ Spec.silence_needs_attention silence }
+{
+    needs_attention(sort_of_silence(silence))
+}
+
 /// Where a link to a row leads: to its item or to its line, or to what stands of its side.
 pub(crate) fn target_of(row: SessionRow<'_>) -> LinkTarget
     ensures { result ≡ Spec.target_of (row_of row.entry) }

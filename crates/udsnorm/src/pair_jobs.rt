@@ -365,6 +365,7 @@ fn write_page<W: Target>(
         left: left_name.as_bytes(),
         right: right_name.as_bytes(),
         tester: config.tester(),
+        functional: config.functional(),
         unit: config.unit(),
         rules: config.rules(),
     };

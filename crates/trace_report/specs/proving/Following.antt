@@ -20,7 +20,7 @@ use Rattle.trace_canon.specs.declared.reception_starts.FramePlace.{FramePlace}
 use Rattle.trace_canon.specs.declared.reception_starts.ReceptionStarts.{ReceptionStarts}
 use Rattle.trace_canon.specs.ReceptionStarts.{AreStartsAfter, still_begun}
 use Rattle.trace_report.specs.Blocks.{blocks_of}
-use Rattle.trace_report.specs.Events.{asked_all_in, asked_in, is_request_step, ends_nothing, rows_of}
+use Rattle.trace_report.specs.Events.{asked_all_in, asked_in, is_exchange_step, is_request_step, ends_nothing, rows_of}
 use Rattle.trace_report.specs.Front.{PageTitleValue}
 use Rattle.trace_report.specs.Page.{last_time}
 use Rattle.trace_report.specs.Rows.{RowValue, row_of}
@@ -79,8 +79,8 @@ pub record KnowsExtents (T : List Entry) (extents : ReceptionExtents) : Type 0 w
   pub begun : AreStartsAfter MESSAGE_LIMIT T extents.begun
   pub frames : CountFrames T extents.frames
 
--- this is why the request that waits after these messages, if one does, has no answer, where it went to all units or to
--- one
+-- this is why the request that waits after these messages, if one does, has no answer, where it need not concern this
+-- unit or does
 abbrev pub IsSilence : List Message → Bool → Silence → Type 0
 IsSilence M to_all silence = IfSome (open_request M) (λ (request : List ℕ). silence ≡ silence_of to_all request)
 
@@ -89,7 +89,7 @@ abbrev pub IsWaiting : List Message → Option ℕ → Type 0
 IsWaiting M waits = waits ≡ open_number_if_any M
 
 -- This is known after these messages: which exchange waits, why it has no answer, and when the last request was
--- complete; that went to all units or to one.
+-- complete; the last message of an exchange went to all units or to one.
 pub record KnowsMessages (M : List Message) (asked : ℕ) (to_all : Bool) (follower : Follower) : Type 0 where
   pub waits : IsWaiting M follower.waits
   pub silence : IsSilence M to_all follower.silence
@@ -100,7 +100,11 @@ pub record KnowsMessages (M : List Message) (asked : ℕ) (to_all : Bool) (follo
 abbrev pub MeetsMessage : List Message → Message → FramePlace → Bool → ℕ → Bool → Follower → Type 0
 MeetsMessage M sent here is_functional asked to_all follower =
     KnowsMessages (M ++ sent ∷ []) (if is_request_step (step_after M sent) then here.micros else asked)
-    (if is_request_step (step_after M sent) then is_functional else to_all) follower
+    (if is_exchange_step (step_after M sent) then is_functional else to_all) follower
+
+-- what a side of this direction sent went to all units or to one: the unit asks none
+abbrev pub OnlyTesterAsksAll : Dir → Bool → Type 0
+OnlyTesterAsksAll d is_functional = d ≡ Unit → is_functional ≡ false
 
 -- all that the rows of further frames depend on is known after the frames T
 pub record Follows (rules : List RuleValue) (T : List Entry) (follower : Follower) : Type 0 where

@@ -8,6 +8,7 @@ title_of title = record {
   style = title.style.now;
   name = title.name.now;
   tester = title.tester;
+  functional = title.functional;
   unit = title.unit;
   max_bytes = title.max_bytes;
   rules = title.rules.now;

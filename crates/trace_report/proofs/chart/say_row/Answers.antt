@@ -1,6 +1,7 @@
--- A row is said as its variant, and that of a message by whether its block is brief.
-use Rattle.std.proofs.Common.{◌≡◌, ℕ, List, Bool, true, refl, ap, sym, subst, ◌∙◌}
+-- A row is said as its variant, and by whether its block is brief.
+use Rattle.std.proofs.Common.{◌≡◌, ℕ, List, true, false, refl, sym, subst, ◌∙◌}
 use Rattle.uds_rules.specs.Rule.{RuleValue}
+use Rattle.trace_report.specs.BriefRows.{brief_missing}
 use Rattle.trace_report.specs.Chart.{row_text}
 use Rattle.trace_report.specs.MissingRows.{missing_row}
 use Rattle.trace_report.specs.declared.row.Missing.{Missing}
@@ -18,13 +19,26 @@ returns-else-brief g c =
     subst (λ text. g.S.TextSink.says c.args.out.now text c.say_message_row.new.out)
     (λ i. row_text c.args.rules.now (sym c.if-brief.false i) c.args.origin (row_of (sym c.in-Message.is i))) c.say_message_row.ensures
 
-missing-text : (rules : List RuleValue) (brief : Bool) (origin : ℕ) (what : Missing) → missing_row true origin what ≡ row_text rules brief origin (missing_of what)
-missing-text rules brief origin (missing.NoAnswer number silence) = refl
-missing-text rules brief origin (missing.Dropped place d own why) = refl
-missing-text rules brief origin (missing.Ended place end) = refl
-missing-text rules brief origin (missing.Unfinished d line len) = refl
+missing-text : (rules : List RuleValue) (origin : ℕ) (what : Missing) → missing_row true origin what ≡ row_text rules false origin (missing_of what)
+missing-text rules origin (missing.NoAnswer number silence) = refl
+missing-text rules origin (missing.Dropped place d own why) = refl
+missing-text rules origin (missing.Ended place end) = refl
+missing-text rules origin (missing.Unfinished d line len) = refl
 
-pub returns-in-Missing : goal.returns-in-Missing
-returns-in-Missing g c =
+brief-text : (rules : List RuleValue) (origin : ℕ) (what : Missing) → brief_missing origin what ≡ row_text rules true origin (missing_of what)
+brief-text rules origin (missing.NoAnswer number silence) = refl
+brief-text rules origin (missing.Dropped place d own why) = refl
+brief-text rules origin (missing.Ended place end) = refl
+brief-text rules origin (missing.Unfinished d line len) = refl
+
+pub returns-then-brief-2 : goal.returns-then-brief-2
+returns-then-brief-2 g c =
+    subst (λ text. g.S.TextSink.says c.args.out.now text c.say_brief_missing.new.out)
+    (brief-text c.args.rules.now c.args.origin c.in-Missing.missing
+    ∙ (λ i. row_text c.args.rules.now (sym c.if-brief-2.true i) c.args.origin (row_of (sym c.in-Missing.is i)))) c.say_brief_missing.ensures
+
+pub returns-else-brief-2 : goal.returns-else-brief-2
+returns-else-brief-2 g c =
     subst (λ text. g.S.TextSink.says c.args.out.now text c.say_missing_row.new.out)
-    (missing-text c.args.rules.now c.args.brief c.args.origin c.in-Missing.missing ∙ ap (λ row. row_text c.args.rules.now c.args.brief c.args.origin (row_of row)) (sym c.in-Missing.is)) c.say_missing_row.ensures
+    (missing-text c.args.rules.now c.args.origin c.in-Missing.missing
+    ∙ (λ i. row_text c.args.rules.now (sym c.if-brief-2.false i) c.args.origin (row_of (sym c.in-Missing.is i)))) c.say_missing_row.ensures

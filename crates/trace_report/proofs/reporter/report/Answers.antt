@@ -11,8 +11,8 @@ pub returns : goal.returns
 returns g c =
     let style = c.args.style.now in
     let name = c.args.name.now in
-    let title : record { style = style; name = name; tester = c.tester.result; unit = c.unit.result; max_bytes = c.max_bytes.result; rules = c.rules-rules.result.now } ≡ page_title style name c.args.config.now =
-    (λ i. record { style = style; name = name; tester = c.tester.ensures i; unit = c.unit.ensures i; max_bytes = c.max_bytes.ensures.value i; rules = c.rules-rules.ensures i }) in
+    let title : record { style = style; name = name; tester = c.tester.result; functional = c.functional.result; unit = c.unit.result; max_bytes = c.max_bytes.result; rules = c.rules-rules.result.now } ≡ page_title style name c.args.config.now =
+    (λ i. record { style = style; name = name; tester = c.tester.ensures i; functional = c.functional.ensures i; unit = c.unit.ensures i; max_bytes = c.max_bytes.ensures.value i; rules = c.rules-rules.ensures i }) in
     record {
       ran = subst (λ (title : PageTitleValue). RanLenient g.R.Source g.W.Target (command (report_script title MESSAGE_LIMIT c.args.config.now.rules)
           (refused_text title MESSAGE_LIMIT c.args.config.now.rules (glimpse_of g.R.Source c.run_lenient.new.source)) answers_counts needs_none)

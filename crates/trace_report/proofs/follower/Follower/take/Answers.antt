@@ -14,7 +14,7 @@ use Rattle.trace_run.proofs.Promises.{completes_judged}
 use Rattle.trace_report.specs.Events.{asked_all_in}
 use Rattle.trace_report.specs.Rows.{row_of}
 use Rattle.trace_report.specs.proving.Following.{KnowsExtents, dropped_rows, row_if}
-use Rattle.trace_report.proofs.Meeting.{message_event, met_next, met_none, rows_none, rows_of_message}
+use Rattle.trace_report.proofs.Meeting.{message_event, met_next, met_none, rows_none, rows_of_message, unit_asks_none}
 use Rattle.trace_report.proofs.follower.Follower.take.Goals as goal
 
 -- what the frame did there
@@ -40,11 +40,12 @@ returns-in-Some-clause-next c = λ rules T e seen known.
     let message = c.in-Some.message in
     let completes = completes_judged rules T e what message seen c.in-Some.is in
     let at = event_at rules T e what here seen c.here_of-here.ensures in
+    let to_all = c.take-extent.ensures.functional ∙ ap is_functional (sym seen.event.channel) in
     record {
       met = met_next rules T e message here.micros c.args.self.now.asked c.take-extent.result.is_functional c.take_message.new.self completes (sym at.micros)
-          (c.take-extent.ensures.functional ∙ ap is_functional (sym seen.event.channel)) known.met.asked_then
-          (c.take_message.ensures.next (messages_under rules MESSAGE_LIMIT T) (asked_all_in MESSAGE_LIMIT rules T) completes.step completes.item known.met.waits
-          known.met.silence);
+          to_all known.met.asked_then
+          (c.take_message.ensures.next (messages_under rules MESSAGE_LIMIT T) (asked_all_in MESSAGE_LIMIT rules T) completes.step completes.item
+          (λ by_unit. to_all ∙ unit_asks_none e.channel (completes.dir ∙ by_unit)) known.met.waits known.met.silence);
       extents = subst (λ p. KnowsExtents (T ++ e ∷ []) p) (sym c.take_message.ensures.extents)
           (c.take-extent.ensures.next T e at known.extents);
     }
