@@ -8,4 +8,4 @@ pub returns : goal.returns
 returns g c =
     subst (λ text. g.S.TextSink.says c.args.out.now text c.say.new.out)
     (object_parts c.args.rules.now c.args.message.now.item_number c.args.message.now.step (sent c.args.message.now)
-    c.args.extent.first c.args.extent.last c.args.extent.is_functional) c.say.ensures
+    c.args.extent.first c.args.extent.last c.args.extent.is_functional c.args.reply) c.say.ensures
