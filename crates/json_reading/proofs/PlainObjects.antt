@@ -32,7 +32,7 @@ use Rattle.uds_echo.specs.Echo.{answers_other}
 use Rattle.trace_text.specs.Json.{Members, null, truth, number, below_zero, pair, string, object, nothing, member}
 use Rattle.trace_text.specs.ItemLines.{answer_members, echo_member, outcome_members, item_members, item_object}
 use Rattle.trace_canon.specs.MessagesScript.{functional_member, micros_between, placed_members, reply_members}
-use Rattle.trace_canon.specs.declared.message_parts.ToldReply.{ToldReply}
+use Rattle.trace_canon.specs.OpenRequests.{ReplyValue}
 use Rattle.trace_text.specs.Words.{role_text}
 use Rattle.trace_text.specs.RuledText.{ruled_text}
 use Rattle.trace_text.specs.Words.{direction_text, service_text, code_text}
@@ -200,7 +200,7 @@ micros_plain : (deep : ℕ) (is_later : Bool) (one other : ℕ) → IsPlainValue
 micros_plain deep true one other = tt
 micros_plain deep false one other = tt
 
-reply_plain : (reply : Option ToldReply) (began : ℕ) (later : Members) → ArePlain 1 later → ArePlain 1 (reply_members reply began later)
+reply_plain : (reply : Option ReplyValue) (began : ℕ) (later : Members) → ArePlain 1 later → ArePlain 1 (reply_members reply began later)
 reply_plain None began later is = is
 reply_plain (Some reply) began later is = (
   plain (codes "after_us") refl,

@@ -1,5 +1,5 @@
 -- A text of plain strings and of numbers of 64 bits is read as what it means.
-use Rattle.std.proofs.Common.{◌≡◌, ℕ, zero, suc, ◌+◌, ◌-◌, ◌^◌, ◌<◌, ◌≤◌, negsuc, List, [], ◌∷◌, ◌++◌, Bool, true, false, Option, Some, decimal, refl, sym, ap, ap₂, ◌∙◌, arith, append_assoc, append-nil, codes}
+use Rattle.std.proofs.Common.{◌≡◌, ℕ, zero, suc, ◌^◌, ◌<◌, ◌≤◌, negsuc, List, [], ◌∷◌, ◌++◌, Bool, true, false, Option, Some, decimal, refl, sym, ap, ap₂, ◌∙◌, arith, append_assoc, append-nil, codes}
 use Rattle.std.specs.Prelude.{⊤, option_and_then, option_map}
 use Rattle.json.specs.Token.{Token}
 use Rattle.json.specs.Lex.{tokens}
@@ -11,8 +11,8 @@ use Rattle.json.proofs.Printed.Decimals.{IsNumber-decimal, IsNumber-signed_decim
 use Rattle.json.proofs.Printed.Tokens.{tokens-print}
 use Rattle.json.proofs.Printed.Trees.{ArePrintable-json_tokens, value-json_tokens}
 use Rattle.serde_json.specs.Data as reader
-use Rattle.serde_json.specs.Data.{negative, put}
-use Rattle.serde_json.specs.Read.{max_depth, number_of, of_json, of_members}
+use Rattle.serde_json.specs.Data.{put}
+use Rattle.serde_json.specs.Read.{max_depth, of_json, of_members}
 use Rattle.serde_json.proofs.Numbers.{number_of-decimal, number_of-negative}
 use Rattle.json_reading.specs.ReadBack.{meant, with_members, HasNumbersOf64Bits, HaveNumbersOf64Bits, IsReadAsMeant}
 use Rattle.json_reading.proofs.PlainTexts.{IsPlain, quoted_plain}
@@ -119,20 +119,20 @@ text_is_printed deep value is = ap print (sym (append-nil (json_tokens (tree val
 -- ---- what the tree means, its numbers, and how deep it is
 
 -- a number below zero is read as what it is, and is a number
-below_zero_means : (n : ℕ) → 0 < n → n < 2 ^ 63 → number_of (codes "-" ++ decimal n) ≡ Some (negative (negsuc (n - 1)))
+below_zero_means : (n : ℕ) → 0 < n → n ≤ 2 ^ 63 → of_json (json.number (codes "-" ++ decimal n)) ≡ Some (meant (below_zero n))
 below_zero_means zero some fits = absurd (omega arith)
-below_zero_means (suc n) some fits = number_of-negative n (omega arith)
+below_zero_means (suc n) some fits = ap (option_map reader.number) (number_of-negative n (omega arith))
 
-below_zero_is_number : (n : ℕ) → 0 < n → n < 2 ^ 63 → IsNumber (codes "-" ++ decimal n)
+below_zero_is_number : (n : ℕ) → 0 < n → n ≤ 2 ^ 63 → IsNumber (codes "-" ++ decimal n)
 below_zero_is_number zero some fits = absurd (omega arith)
-below_zero_is_number (suc n) some fits = IsNumber-signed_decimal (negsuc n) fits
+below_zero_is_number (suc n) some fits = IsNumber-signed_decimal (negsuc n) (omega arith)
 
 mutual
   tree_means : (value : Value) → HasNumbersOf64Bits value → of_json (tree value) ≡ Some (meant value)
   tree_means null fits = refl
   tree_means (truth b) fits = refl
   tree_means (number n) fits = ap (option_map reader.number) (number_of-decimal n fits)
-  tree_means (below_zero n) fits = ap (option_map reader.number) (below_zero_means n fits.0 fits.1)
+  tree_means (below_zero n) fits = below_zero_means n fits.0 fits.1
   tree_means (pair one other) fits = rw (number_of-decimal one fits.0, number_of-decimal other fits.1) refl
   tree_means (string text) fits = refl
   tree_means (object members) fits = ap (option_map reader.object) (trees_mean members reader.no_members fits)

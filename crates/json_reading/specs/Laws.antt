@@ -10,7 +10,7 @@ use Rattle.trace_text.specs.RemarkLines.{remark_members}
 use Rattle.trace_canon.specs.CreditLines.{credit_object}
 use Rattle.trace_text.specs.ItemLines.{item_object}
 use Rattle.trace_canon.specs.MessagesScript.{PlacedMessage, placed_members}
-use Rattle.trace_canon.specs.declared.message_parts.ToldReply.{ToldReply}
+use Rattle.trace_canon.specs.OpenRequests.{ReplyValue}
 use Rattle.uds_exchange.specs.Meaning.{ItemValue}
 use Rattle.uds_rules.specs.Rule.{RuleValue}
 use Rattle.uds_find.specs.Finding.{FoundUnit, credit_line}
@@ -22,7 +22,7 @@ ItemsAreReadAsMeant = (rules : List RuleValue) (numbering : Numbering) (n : ℕ)
 -- a message with its place, and with what is told of it as a reply
 abbrev pub MessagesAreReadAsMeant : Type 0
 MessagesAreReadAsMeant =
-    (rules : List RuleValue) (placed : PlacedMessage) (reply : Option ToldReply) → IsReadAsMeant (placed_members rules placed reply)
+    (rules : List RuleValue) (placed : PlacedMessage) (reply : Option ReplyValue) → IsReadAsMeant (placed_members rules placed reply)
 
 -- a remark that explains a log
 abbrev pub RemarksAreReadAsMeant : Type 0

@@ -28,8 +28,8 @@ use Rattle.trace_text.proofs.Promises.{line_is, value_is}
 use Rattle.trace_canon.specs.MessagesScript.{PlacedMessage, judged_at, micros_between, placed_line, placed_members, placed_text, functional_mark, functional_member}
 use Rattle.trace_canon.specs.MessagesScript.{placed_behind, left_line, delivered_line, reply_members, reply_text, told_reply}
 use Rattle.trace_canon.specs.FirstFrames.{place_of, first_frame}
+use Rattle.trace_canon.specs.OpenRequests.{ReplyValue}
 use Rattle.trace_canon.specs.declared.message_parts.FrameExtent.{FrameExtent}
-use Rattle.trace_canon.specs.declared.message_parts.ToldReply.{ToldReply}
 use Rattle.trace_canon.specs.declared.reception_starts.FramePlace.{FramePlace}
 use Rattle.trace_canon.proofs.NextStarts.{here_at}
 
@@ -75,7 +75,7 @@ module _ (rules : List RuleValue) (T : List Entry) (e : Entry) (judged : Judged)
         ∙ line_of notation
 
     -- and so is its object, with what is told of it as a reply
-    pub object_said : (reply : Option ToldReply) → own_notation ≡ Json → reply ≡ told_reply MESSAGE_LIMIT rules T (sent judged)
+    pub object_said : (reply : Option ReplyValue) → own_notation ≡ Json → reply ≡ told_reply MESSAGE_LIMIT rules T (sent judged)
         → object_line (placed_members own_rules (judged_at judged (extent_from first (here_at seen.line seen.micros) to_all)) reply)
         ≡ delivered_line notation MESSAGE_LIMIT rules T e (verdict MESSAGE_LIMIT T e).verdict
     object_said reply objects reply_is =
@@ -111,7 +111,7 @@ nothing_said notation rules T e seen is none =
 -- ---- the parts of the object of a message
 
 -- what is told of a reply, and members behind it
-reply_then : (reply : Option ToldReply) (start : ℕ) (later : Members) (behind : List ℕ)
+reply_then : (reply : Option ReplyValue) (start : ℕ) (later : Members) (behind : List ℕ)
     → reply_text reply start ++ later_then later behind ≡ later_then (reply_members reply start later) behind
 reply_then None start later behind = refl
 reply_then (Some reply) start later behind =
@@ -129,7 +129,7 @@ reply_then (Some reply) start later behind =
     marked true = refl
     marked false = refl
 
-abbrev object_parts_of : ℕ → List ℕ → List ℕ → List ℕ → FrameExtent → Option ToldReply → List ℕ
+abbrev object_parts_of : ℕ → List ℕ → List ℕ → List ℕ → FrameExtent → Option ReplyValue → List ℕ
 object_parts_of number role side bytes extent reply =
     codes "{\"item\":" ++ decimal number ++ codes ",\"role\":\"" ++ role ++ codes "\",\"direction\":\"" ++ side
     ++ (codes "\",\"first_line\":" ++ decimal extent.first.line ++ codes ",\"last_line\":" ++ decimal extent.last.line)
@@ -144,7 +144,7 @@ in_order : (a b c d e f g h i j k l m n o p q r s t : List ℕ)
 in_order a b c d e f g h i j k l m n o p q r s t = simp (append_assoc, append-nil)
 
 pub object_parts : (rules : List RuleValue) (number : ℕ) (step : Step) (sent : Message) (first last : FramePlace) (to_all : Bool)
-    (reply : Option ToldReply)
+    (reply : Option ReplyValue)
     → object_parts_of number (role_text step) (direction_text sent.0) (ruled_text rules sent.1) (extent_from first last to_all) reply
     ≡ object_line (placed_members rules (placed_at number step sent (extent_from first last to_all)) reply)
 object_parts rules number step sent first last to_all reply =

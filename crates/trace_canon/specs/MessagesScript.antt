@@ -15,7 +15,7 @@ use Rattle.trace_text.specs.ItemLines.{echo_member}
 use Rattle.trace_text.specs.Json.{Value, Members, nothing, member, object_line, value_text}
 use Rattle.trace_text.specs.Json as json
 use Rattle.trace_canon.specs.FirstFrames.{first_frame, place_of}
-use Rattle.trace_canon.specs.OpenRequests.{asked_after, reply_behind}
+use Rattle.trace_canon.specs.OpenRequests.{ReplyValue, asked_after, reply_behind}
 use Rattle.trace_canon.specs.declared.message_parts.FrameExtent.{FrameExtent}
 use Rattle.trace_canon.specs.declared.message_parts.ToldReply.{ToldReply}
 use Rattle.trace_text.specs.declared.notation.Notation.{Notation}
@@ -60,24 +60,28 @@ functional_member false later = later
 abbrev pub functional_mark : Bool → List ℕ
 functional_mark to_all = if to_all then codes ",\"functional\":true" else []
 
+-- what is told of a reply, as it is said
+abbrev pub reply_value : ToldReply → ReplyValue
+reply_value told = record { asked = told.asked; is_other = told.is_other }
+
 -- the microseconds from one time to another, below zero where this is the earlier one
 abbrev pub micros_between : ℕ → ℕ → Value
 micros_between asked start = if nat_le asked start then json.number (start - asked) else json.below_zero (asked - start)
 
 -- what is told of a reply whose first frame has this time among the members of its object: how many microseconds after
 -- the last frame of its request it begins, and where an answer is other than was asked, this
-abbrev pub reply_members : Option ToldReply → ℕ → Members → Members
+abbrev pub reply_members : Option ReplyValue → ℕ → Members → Members
 reply_members None start later = later
 reply_members (Some reply) start later = member (codes "after_us") (micros_between reply.asked start) (echo_member reply.is_other later)
 
 -- the same as it is written behind another member
-abbrev pub reply_text : Option ToldReply → ℕ → List ℕ
+abbrev pub reply_text : Option ReplyValue → ℕ → List ℕ
 reply_text None start = []
 reply_text (Some reply) start =
     codes ",\"after_us\":" ++ value_text (micros_between reply.asked start) ++ (if reply.is_other then codes ",\"echo\":false" else [])
 
 -- the members of the object of a placed message, of which this is told as a reply
-abbrev pub placed_members : List RuleValue → PlacedMessage → Option ToldReply → Members
+abbrev pub placed_members : List RuleValue → PlacedMessage → Option ReplyValue → Members
 placed_members rules placed reply =
     member (codes "item") (json.number placed.number) (member (codes "role") (json.string (role_text placed.step))
     (member (codes "direction") (json.string (direction_text placed.sent.0))
@@ -90,7 +94,7 @@ placed_members rules placed reply =
     (member (codes "message") (json.string (ruled_text rules placed.sent.1)) nothing)))))))))
 
 -- the line of a placed message in a notation; in words it is not told as a reply
-abbrev pub placed_text : Notation → List RuleValue → PlacedMessage → Option ToldReply → List ℕ
+abbrev pub placed_text : Notation → List RuleValue → PlacedMessage → Option ReplyValue → List ℕ
 placed_text Text rules placed reply = placed_line rules placed
 placed_text Json rules placed reply = object_line (placed_members rules placed reply)
 
@@ -105,7 +109,7 @@ placed_behind M sent first last =
     }
 
 -- what is told as a reply of a message that comes behind the frames T
-abbrev pub told_reply : ℕ → List RuleValue → List Entry → Message → Option ToldReply
+abbrev pub told_reply : ℕ → List RuleValue → List Entry → Message → Option ReplyValue
 told_reply limit rules T sent =
     reply_behind rules (asked_after limit rules T) (step_after (messages_under rules limit T) sent) sent.1
 

@@ -12,7 +12,6 @@ use Rattle.uds_exchange.specs.declared.step.Step.TheVariants as becomes
 use Rattle.uds_rules.specs.Rule.{RuleValue}
 use Rattle.uds_rules.specs.Under.{under}
 use Rattle.trace_log.specs.Messages.{messages_under}
-use Rattle.trace_canon.specs.declared.message_parts.ToldReply.{ToldReply}
 
 -- whether the frame e completes a request behind the frames T: rules leave one of its message
 abbrev pub completes_request : ℕ → List RuleValue → List Entry → Entry → Bool
@@ -40,9 +39,15 @@ abbrev pub asked_after : ℕ → List RuleValue → List Entry → Option AskedR
 asked_after limit rules T =
     option_map (λ request. asked_at request (last_request_time limit rules 0 [] T)) (open_request (messages_under rules limit T))
 
+-- What is told of a reply: the time of the last frame of its request, in microseconds, and whether it is an answer that
+-- is other than was asked.
+pub record ReplyValue : Type 0 where
+  pub asked : ℕ
+  pub is_other : Bool
+
 -- what is told of a message of this step as a reply to a request: the time of the request's last frame, and whether an
 -- answer is other than was asked
-abbrev pub reply_to : List RuleValue → Step → List ℕ → AskedRequest → Option ToldReply
+abbrev pub reply_to : List RuleValue → Step → List ℕ → AskedRequest → Option ReplyValue
 reply_to rules becomes.Answer bytes request = Some (record { asked = request.micros; is_other = answers_other rules request.bytes bytes })
 reply_to rules becomes.Removed bytes request = Some (record { asked = request.micros; is_other = false })
 reply_to rules (becomes.Request service) bytes request = None
@@ -50,5 +55,5 @@ reply_to rules becomes.Hold bytes request = None
 reply_to rules becomes.Pass bytes request = None
 
 -- what is told of it where this request is open, if one is
-abbrev pub reply_behind : List RuleValue → Option AskedRequest → Step → List ℕ → Option ToldReply
+abbrev pub reply_behind : List RuleValue → Option AskedRequest → Step → List ℕ → Option ReplyValue
 reply_behind rules asked step bytes = option_and_then (reply_to rules step bytes) asked

@@ -1,7 +1,8 @@
 //! The line of a message as an object of JSON.
 
+ghost use Rattle.std.specs.Prelude.{option_map};
 ghost use Rattle.trace_text.specs.Json.{object_line};
-ghost use Rattle.trace_canon.specs.MessagesScript.{judged_at, placed_members};
+ghost use Rattle.trace_canon.specs.MessagesScript.{judged_at, placed_members, reply_value};
 
 use crate::message_parts::{FrameExtent, ReplyMembers, ToldReply};
 use text_parts::{When, say};
@@ -18,7 +19,8 @@ pub(crate) fn say_message_object<S: TextSink>(
     reply: Option<ToldReply>,
     out: &mut S,
 )
-    ensures { S.says out.old (object_line (placed_members rules.now (judged_at message.now extent) reply)) out.new }
+    ensures { S.says out.old
+        (object_line (placed_members rules.now (judged_at message.now extent) (option_map reply_value reply))) out.new }
 {
     say(
         out,

@@ -55,9 +55,10 @@ pub(crate) struct ReplyMembers {
 }
 
 impl Part for ReplyMembers {
-    ghost use Rattle.trace_canon.specs.MessagesScript.{reply_text};
+    ghost use Rattle.std.specs.Prelude.{option_map};
+    ghost use Rattle.trace_canon.specs.MessagesScript.{reply_text, reply_value};
 
-    ghost text = { λ members. reply_text members.reply members.began };
+    ghost text = { λ members. reply_text (option_map reply_value members.reply) members.began };
 
     #[inline(always)]
     fn say<S: TextSink>(self, out: &mut S) {

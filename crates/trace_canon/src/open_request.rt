@@ -1,8 +1,9 @@
 //! The request that is open, with its time, for what is told of the replies to it.
 
-ghost use Rattle.std.specs.Prelude.{◌≡◌, List, None, OnOk, OnErr};
+ghost use Rattle.std.specs.Prelude.{◌≡◌, None, OnOk, OnErr, option_map};
 ghost use Rattle.uds_exchange.specs.proving.Deciding.{Begins};
-ghost use Rattle.trace_canon.specs.OpenRequests.{reply_behind, reply_to};
+ghost use Rattle.trace_canon.specs.MessagesScript.{reply_value};
+ghost use Rattle.trace_canon.specs.OpenRequests.{reply_behind};
 ghost use Rattle.trace_canon.specs.proving.Asking.{asked_with};
 
 use crate::message_parts::ToldReply;
@@ -43,7 +44,7 @@ impl OpenRequest {
 
     /// What is told of a message as a reply.
     pub(crate) fn reply(&self, rules: &Rules, message: &Judged<'_>) -> Option<ToldReply>
-        ensures { result ≡ reply_behind rules.now self.now message.now.step message.now.bytes.now }
+        ensures { option_map reply_value result ≡ reply_behind rules.now self.now message.now.step message.now.bytes.now }
     {
         let asked = self.asked?;
         match message.step {
