@@ -3,6 +3,8 @@
 import json
 import re
 
+from echoes import echo_told
+
 ENDED = re.compile(r"line (\d+): (tester|unit) reception from line (\d+) of (\d+) bytes ended: (.+)")
 DROPPED = re.compile(r"line (\d+): (tester|unit) frame dropped: (.+)")
 UNFINISHED = re.compile(r"end: (tester|unit) reception from line (\d+) of (\d+) bytes unfinished")
@@ -13,7 +15,9 @@ DIFFERENT = re.compile(r"different at item (\d+)")
 
 def in_objects(job, text):
     """The text that a job writes with `--json`, by the one that it writes without."""
-    return "".join(map(object_line, map(OBJECTS[job], text.decode().splitlines()))).encode()
+    lines = text.decode().splitlines()
+    objects = message_objects(lines) if job == "messages" else map(OBJECTS[job], lines)
+    return "".join(map(object_line, objects)).encode()
 
 
 def object_line(members):
@@ -26,14 +30,30 @@ def item_object(line):
     if words[0] == "stray":
         return {**number, **named("kind direction message", words)}
     kind, service, request, _, *outcome = words
-    came_of_it = "outcome code answer" if len(outcome) == 3 else "outcome answer"
-    return {**number, **named("kind service request", [kind, service, request]), **named(came_of_it, outcome)}
+    asked = {**number, **named("kind service request", [kind, service, request]), "outcome": outcome[0]}
+    if outcome[0] == "positive":
+        return {**asked, **echo_told(request, outcome[1]), "answer": outcome[1]}
+    return {**asked, **named("code answer", outcome[1:])}
 
 
-def message_object(line):
-    number, role, direction, _, first, _, last, _, start, _, end, message = line.split(" ")
-    item = {"item": int(number), "role": role, "direction": direction, "first_line": int(first), "last_line": int(last)}
-    return {**item, "start": start, "end": end, "message": message}
+def message_objects(lines):
+    """Those of the lines of messages: a reply is told with its request, the last one of its item."""
+    requests = {}
+    for line in lines:
+        number, role, direction, _, first, _, last, _, start, _, end, message = line.split(" ")
+        if role == "request":
+            requests[number] = end, message
+        reply = {}
+        if role in ("answer", "pending"):
+            asked, request = requests[number]
+            reply = {"after_us": micros(start) - micros(asked), **(echo_told(request, message) if role == "answer" else {})}
+        item = {"item": int(number), "role": role, "direction": direction, "first_line": int(first), "last_line": int(last)}
+        yield {**item, "start": start, "end": end, **reply, "message": message}
+
+
+def micros(stamp):
+    """A time stamp in microseconds."""
+    return int(stamp.replace(".", ""))
 
 
 def event_object(line):
@@ -71,6 +91,5 @@ def named(names, words):
 OBJECTS = {
     "list": item_object,
     "explain": event_object,
-    "messages": message_object,
     "compare": comparison_object,
 }

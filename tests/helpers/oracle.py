@@ -15,6 +15,8 @@ import re
 import sys
 from collections import Counter, namedtuple
 
+from echoes import echo_told
+
 TESTER, UNIT = "tester", "unit"
 OTHER = {TESTER: UNIT, UNIT: TESTER}
 
@@ -420,7 +422,9 @@ def item_members(item):
     outcome, *reply = answer_text(item).split(" ")
     names = {"positive": ["answer"], "negative": ["code", "answer"]}.get(outcome, [])
     service = SERVICES.get(item.request[0], f"service_{item.request[0]:02X}")
-    return {"kind": "exchange", "service": service, "request": digits(item.request), "outcome": outcome, **dict(zip(names, reply))}
+    asked = {"kind": "exchange", "service": service, "request": digits(item.request), "outcome": outcome}
+    echo = echo_told(asked["request"], reply[0]) if outcome == "positive" else {}
+    return {**asked, **echo, **dict(zip(names, reply))}
 
 
 def item_text(item):
@@ -604,15 +608,25 @@ def places(frames):
     """What is told of each message that these frames deliver."""
     ends = [p for p in range(len(frames)) if delivered(frames, p) is not None]
     listed = messages(frames)
-    told = []
+    told, requests = [], {}
     for p, (direction, message), (number, role) in zip(ends, listed, parts_of(listed)):
         first, last = frames[first_position(frames, p)], frames[p]
         start, stop, spelled = stamp(first.micros), stamp(last.micros), digits(message)
         words = f"{number} {role} {direction} lines {first.line} to {last.line} at {start} to {stop} {spelled}"
         members = {"item": number, "role": role, "direction": direction, "first_line": first.line, "last_line": last.line}
         mark = {"functional": True} if last.direction == FUNCTIONAL else {}
-        told.append(Told(words, {**members, "start": start, "end": stop, **mark, "message": spelled}))
+        requests.update({number: (last.micros, spelled)} if role == "request" else {})
+        reply = reply_told(role, first.micros, spelled, requests.get(number))
+        told.append(Told(words, {**members, "start": start, "end": stop, **reply, **mark, "message": spelled}))
     return told
+
+
+def reply_told(role, start, spelled, asked):
+    """The members that tell of a reply to this request, which has a time and its bytes as they are told."""
+    if role not in ("answer", "pending"):
+        return {}
+    echo = echo_told(asked[1], spelled) if role == "answer" else {}
+    return {"after_us": start - asked[0], **echo}
 
 
 def listed_again(placed):

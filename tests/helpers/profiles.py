@@ -243,13 +243,15 @@ def places(rules, frames):
     ends = [(p, oracle.delivered(frames, p)) for p in range(len(frames))]
     left = [(p, frames[p].direction, made_of(rules, message)) for p, message in ends if message is not None]
     left = [each for each in left if each[2] is not None]
-    told = []
+    told, requests = [], {}
     for (p, direction, message), (number, role) in zip(left, oracle.parts_of([each[1:] for each in left])):
         first, last = frames[oracle.first_position(frames, p)], frames[p]
         start, stop, spelled = oracle.stamp(first.micros), oracle.stamp(last.micros), oracle.digits(message)
         words = f"{number} {role} {direction} lines {first.line} to {last.line} at {start} to {stop} {spelled}"
         members = {"item": number, "role": role, "direction": direction, "first_line": first.line, "last_line": last.line}
-        told.append(Told(words, {**members, "start": start, "end": stop, "message": spelled}))
+        requests.update({number: (last.micros, spelled)} if role == "request" else {})
+        reply = oracle.reply_told(role, first.micros, spelled, requests.get(number))
+        told.append(Told(words, {**members, "start": start, "end": stop, **reply, "message": spelled}))
     return told
 
 

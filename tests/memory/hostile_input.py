@@ -57,6 +57,15 @@ LONGEST_PLACE_OBJECT = (
     '"start":"0.000000","end":"0.000000","message":"2C"}}\n'
 )
 
+# Objects of a request and of its answer, which begins as many microseconds before it as lines of this length can tell.
+LATER_REQUEST, ANSWERED = b"(9.999999) a 7E0#012C\n", b"(0.000000) a 7E8#016C\n"
+LONGEST_ANSWERED_OBJECTS = (
+    '{{"item":{0},"role":"request","direction":"tester","first_line":{1},"last_line":{1},'
+    '"start":"9.999999","end":"9.999999","message":"2C"}}\n'
+    '{{"item":{0},"role":"answer","direction":"unit","first_line":{2},"last_line":{2},'
+    '"start":"0.000000","end":"0.000000","after_us":-9999999,"message":"6C"}}\n'
+)
+
 # What a page of two logs has at most for each byte of both, where numbers have four digits: the row of an item that one log has alone, with
 # which a difference begins. It is a request of one byte, for the service of OBD with the longest title.
 ROW_OF_ONE = Fraction(503 + 6 * 4, 22)
@@ -205,7 +214,17 @@ def longest_texts(cases):
         items = "".join(map(longest.format, range(1, 10_001))).encode()
         wrong = [] if status == DONE and text.startswith(items) else [f"status {status}, {text[:100]!r}"]
         cases.report(f"{job} writes {len(text)} bytes of {len(log)}", wrong)
+    answered_texts(cases)
     functional_texts(cases)
+
+
+def answered_texts(cases):
+    """The same of requests that are answered: an object of an answer has a time more."""
+    log = (LATER_REQUEST + ANSWERED) * 5_000
+    status, text, _ = cases.run(["messages", "--json"], log)
+    objects = "".join(LONGEST_ANSWERED_OBJECTS.format(item, 2 * item - 1, 2 * item) for item in range(1, 5_001)).encode()
+    wrong = [] if status == DONE and text == objects else [f"status {status}, {text[:100]!r}"]
+    cases.report(f"messages --json of requests with answers writes {len(text)} bytes of {len(log)}", wrong)
 
 
 def functional_texts(cases):
@@ -299,17 +318,21 @@ FIRST_DATA = b"\x10\x00\x00\x00\xff\xff\x41\x42"
 
 
 def places(cases):
-    places_told(cases, ["messages"], LONGEST_PLACE, r"^\d+ (\w+ \w+)", with_long_numbers)
-    places_told(cases, ["messages", "--json"], LONGEST_PLACE_OBJECT, r'"role":"(\w+)","direction":"(\w+)"', objects_with_long_numbers)
+    most = Fraction(len(LONGEST_PLACE.format(10**7)), len(REQUEST))
+    places_told(cases, ["messages"], most, r"^\d+ (\w+ \w+)", with_long_numbers)
+    most = Fraction(len(LONGEST_ANSWERED_OBJECTS.format(10**7, 10**7, 10**7)), len(LATER_REQUEST + ANSWERED))
+    places_told(cases, ["messages", "--json"], most, r'"role":"(\w+)","direction":"(\w+)"', objects_with_long_numbers)
 
 
-def places_told(cases, words, longest, role, lengthened):
-    """What messages tells of a message, for each byte of its lines, is most for a request of one byte: of messages of each role
-    and of many lengths in their shortest recordings, alone and behind a request, with the shortest stamps and the longest, in
-    lines whose numbers have eight digits."""
-    most = Fraction(len(longest.format(10**7)), len(REQUEST))
+def places_told(cases, words, most, role, lengthened):
+    """What messages tells of a message, for each byte of its lines, is most for a request of one byte, and as JSON for that and its
+    answer: of messages of each role and of many lengths in their shortest recordings, alone and behind requests, with the shortest
+    stamps and the longest, in lines whose numbers have eight digits."""
     wrong, found, roles = [], [], set()
-    for (sender, message), before, seconds in itertools.product(placed_messages(), (b"", REQUEST), (b"(0.", b"(9999999999.")):
+    latest = LATER_REQUEST.replace(b"9.", b"9999999999.")
+    for (sender, message), before, seconds in itertools.product(
+        placed_messages(), (b"", REQUEST, LATER_REQUEST, latest), (b"(0.", b"(9999999999.")
+    ):
         for recording in shortest_recordings(sender, message):
             log = (before + recording).replace(b"(0.", seconds)
             status, text, _ = cases.run(words, log)
@@ -449,6 +472,8 @@ def under_rules(cases):
             cases.report(f"{' '.join(words)} of masked messages", wrong + differences("status", found.status, DONE))
         longest = two_receptions() + b"".join(b"(0.000000) a %b##024%b\n" % (side, b"00" * 11) for side in (b"7E0", b"7E8"))
         cases.case("two of the longest messages", cases.run(["explain"], longest), DONE, counts_line(longest, messages=2))
+        name = "two of the longest messages, of which the request is kept"
+        holds_at_most(cases, ["messages", "--json"], name, longest, RECEPTION_BYTES + 2 * oracle.MESSAGE_LIMIT, DONE)
         for job in ["messages", "report"]:
             name = "two of the longest messages, each masked"
             holds_at_most(cases, [job, *profile], name, longest, RECEPTION_BYTES + 2 * oracle.MESSAGE_LIMIT + PROFILE_BYTES, DONE)

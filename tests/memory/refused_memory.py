@@ -83,8 +83,9 @@ both                                                           2     4      3   
 long                                                           0     -      -        0         0     1       0        -       -
 """
 
-# The columns of jobs over two logs, with their commands.
+# The columns of jobs over two logs, with their commands; and of a job with an option.
 OVER_TWO = {"compare": "compare", "pages": "report"}
+WITH_OPTIONS = {"objects": ["messages", "--json"]}
 
 # Words that ask for no job, or for one that does not begin.
 WORDS = ["--help", "list --help", "lis", "list --limi 1", "list --limit x", "compare a", "list --tester 7E", "list --tester 800"]
@@ -184,7 +185,7 @@ def the_program(cases, refuser):
         right = left.with_suffix(".canonical") if options else logs["vin"]
         for job, numbers in growths.items():
             files = [left, right] if job in OVER_TWO else [left]
-            words = [OVER_TWO.get(job, job), *options]
+            words = [*WITH_OPTIONS.get(job, [OVER_TWO.get(job, job)]), *options]
             missing = (*words, *["missing"] * len(files))
             begun[missing] = begun.get(missing) or words_refused(cases, refuser, missing)
             job_refused(cases, refuser, f"{job} of {row}", [*words, *map(str, files)], begun[missing], told_of_job(job, numbers))

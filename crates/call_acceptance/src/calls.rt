@@ -183,6 +183,7 @@ enum Text {
     CanonicalLog,
     ItemList(ItemStyle),
     MessageLines,
+    MessageObjects,
     Explanation,
 }
 
@@ -198,6 +199,7 @@ fn text_in_memory(
         Text::CanonicalLog => in_memory::canonical_log(alloc, &config, log),
         Text::ItemList(style) => in_memory::item_list(alloc, &config, style, log),
         Text::MessageLines => in_memory::message_lines(alloc, &config, Notation::Text, log),
+        Text::MessageObjects => in_memory::message_lines(alloc, &config, Notation::Json, log),
         Text::Explanation => in_memory::explanation(alloc, &config, Notation::Text, log),
     })
 }
@@ -262,6 +264,40 @@ fn a_session_in_memory_has_its_counts(rt: HostRuntime) -> Result<(), Fail> {
     let found = found.or(Err("not compared"))?;
     assert!(rt; found.comparison == Comparison::Same);
     assert!(rt; found.left.frames == 5 && found.right.messages == 2);
+    Ok(())
+}
+
+/// A session whose answer is other than was asked, behind a reply that came before its request.
+const OTHER_ANSWER: &str = "\
+(2.000000) can0 7E0#0322F101
+(1.999000) can0 7E8#037F2278
+(2.500000) can0 7E8#0562F1004142
+";
+
+/// What is told of its messages as JSON.
+const REPLIES: &str = "\
+{\"item\":1,\"role\":\"request\",\"direction\":\"tester\",\"first_line\":1,\"last_line\":1,\"start\":\"2.000000\",\"end\":\"2.000000\",\"message\":\"22F101\"}
+{\"item\":1,\"role\":\"pending\",\"direction\":\"unit\",\"first_line\":2,\"last_line\":2,\"start\":\"1.999000\",\"end\":\"1.999000\",\"after_us\":-1000,\"message\":\"7F2278\"}
+{\"item\":1,\"role\":\"answer\",\"direction\":\"unit\",\"first_line\":3,\"last_line\":3,\"start\":\"2.500000\",\"end\":\"2.500000\",\"after_us\":500000,\"echo\":false,\"message\":\"62F1004142\"}
+";
+
+/// And of its item.
+const OTHER_ITEM: &str = "\
+{\"item\":1,\"kind\":\"exchange\",\"service\":\"ReadDataByIdentifier\",\"request\":\"22F101\",\"outcome\":\"positive\",\"echo\":false,\"answer\":\"62F1004142\"}
+";
+
+#[test]
+fn a_session_in_memory_has_its_replies(rt: HostRuntime) -> Result<(), Fail> {
+    let alloc = rt.alloc();
+    let log = OTHER_ANSWER.as_bytes();
+    let found = text_in_memory(alloc, Text::MessageObjects, log)??;
+    assert_eq!(rt; str::from_utf8(found.text.as_slice())?, REPLIES);
+    let style = ItemStyle {
+        numbering: Numbering::Shown,
+        notation: Notation::Json,
+    };
+    let found = text_in_memory(alloc, Text::ItemList(style), log)??;
+    assert_eq!(rt; str::from_utf8(found.text.as_slice())?, OTHER_ITEM);
     Ok(())
 }
 

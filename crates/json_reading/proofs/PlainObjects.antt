@@ -1,7 +1,7 @@
 -- The objects that are told have plain texts.
 use Rattle.std.proofs.Common.{◌≡◌, ℕ, ◌+◌, Bool, true, false, true≢false, List, Option, Some, None, refl, sym, codes}
 use Rattle.std.specs.List.{list_all}
-use Rattle.std.specs.Prelude.{◌&&◌, slice_get}
+use Rattle.std.specs.Prelude.{◌&&◌, ◌-◌, nat_le, slice_get, if◌then◌else◌}
 use Rattle.direction.specs.declared.Dir.{Dir}
 use Rattle.direction.specs.declared.Dir.TheVariants as dir
 use Rattle.isotp_pdu.specs.declared.PduFault.{PduFault}
@@ -28,9 +28,11 @@ use Rattle.trace_canon.specs.ComparisonText.{shown_members, shown_value, compari
 use Rattle.trace_text.specs.RemarkLines.{cause_text, layout_fault_text, reason_members, remark_members}
 use Rattle.trace_canon.specs.CreditLines.{credit_object}
 use Rattle.trace_canon.specs.CreditLines as credit
-use Rattle.trace_text.specs.Json.{Members, null, truth, number, pair, string, object, nothing, member}
-use Rattle.trace_text.specs.ItemLines.{answer_members, outcome_members, item_members, item_object}
-use Rattle.trace_canon.specs.MessagesScript.{functional_member, placed_members}
+use Rattle.uds_echo.specs.Echo.{answers_other}
+use Rattle.trace_text.specs.Json.{Members, null, truth, number, below_zero, pair, string, object, nothing, member}
+use Rattle.trace_text.specs.ItemLines.{answer_members, echo_member, outcome_members, item_members, item_object}
+use Rattle.trace_canon.specs.MessagesScript.{functional_member, micros_between, placed_members, reply_members}
+use Rattle.trace_canon.specs.OpenRequests.{ReplyValue}
 use Rattle.trace_text.specs.Words.{role_text}
 use Rattle.trace_text.specs.RuledText.{ruled_text}
 use Rattle.trace_text.specs.Words.{direction_text, service_text, code_text}
@@ -89,13 +91,20 @@ are_plain deep (member key (string text) later) so =
     (plain key first.0, plain text second.0, are_plain deep later second.1)
 are_plain deep (member key null later) so = absurd (true≢false (sym so))
 are_plain deep (member key (truth b) later) so = absurd (true≢false (sym so))
+are_plain deep (member key (below_zero n) later) so = absurd (true≢false (sym so))
 are_plain deep (member key (pair one other) later) so = absurd (true≢false (sym so))
 are_plain deep (member key (object members) later) so = absurd (true≢false (sym so))
 
 -- ---- items
 
-answer_plain : (rules : List RuleValue) (deep : ℕ) (b : Bool) (reply : List ℕ) → is_negative_response reply ≡ b → ArePlain deep (answer_members rules reply)
-answer_plain rules deep true reply so =
+-- members are plain behind the mark of an answer that is other than was asked, and without it
+echo_plain : (deep : ℕ) (is_other : Bool) (later : Members) → ArePlain deep later → ArePlain deep (echo_member is_other later)
+echo_plain deep true later is = (plain (codes "echo") refl, tt, is)
+echo_plain deep false later is = is
+
+answer_plain : (rules : List RuleValue) (deep : ℕ) (b : Bool) (request reply : List ℕ) → is_negative_response reply ≡ b
+    → ArePlain deep (answer_members rules request reply)
+answer_plain rules deep true request reply so =
     rw so (
       plain (codes "outcome") refl,
       plain (codes "negative") refl,
@@ -109,15 +118,20 @@ answer_plain rules deep true reply so =
         ),
       ),
     )
-answer_plain rules deep false reply so =
-    rw so (plain (codes "outcome") refl, plain (codes "positive") refl, (plain (codes "answer") refl, message_plain rules reply, tt))
+answer_plain rules deep false request reply so =
+    rw so (
+      plain (codes "outcome") refl,
+      plain (codes "positive") refl,
+      echo_plain deep (answers_other rules request reply) (member (codes "answer") (string (ruled_text rules reply)) nothing)
+          (plain (codes "answer") refl, message_plain rules reply, tt),
+    )
 
 none_plain : (rules : List RuleValue) (deep : ℕ) (b : Bool) (request : List ℕ) → is_suppressing request ≡ b → ArePlain deep (outcome_members rules request None)
 none_plain rules deep true request so = rw so (plain (codes "outcome") refl, plain (codes "silent") refl, tt)
 none_plain rules deep false request so = rw so (plain (codes "outcome") refl, plain (codes "unanswered") refl, tt)
 
 outcome_plain : (rules : List RuleValue) (deep : ℕ) (request : List ℕ) (reply : Option (List ℕ)) → ArePlain deep (outcome_members rules request reply)
-outcome_plain rules deep request (Some reply) = answer_plain rules deep (is_negative_response reply) reply refl
+outcome_plain rules deep request (Some reply) = answer_plain rules deep (is_negative_response reply) request reply refl
 outcome_plain rules deep request None = none_plain rules deep (is_suppressing request) request refl
 
 item_plain : (rules : List RuleValue) (deep : ℕ) (item : ItemValue) → ArePlain deep (item_members rules item)
@@ -181,9 +195,22 @@ functional_plain false message is = (
   tt,
 )
 
+-- a time between others is a number, below zero or not
+micros_plain : (deep : ℕ) (is_later : Bool) (one other : ℕ) → IsPlainValue deep (if is_later then number one else below_zero other)
+micros_plain deep true one other = tt
+micros_plain deep false one other = tt
+
+reply_plain : (reply : Option ReplyValue) (began : ℕ) (later : Members) → ArePlain 1 later → ArePlain 1 (reply_members reply began later)
+reply_plain None began later is = is
+reply_plain (Some reply) began later is = (
+  plain (codes "after_us") refl,
+  micros_plain 1 (nat_le reply.asked began) (began - reply.asked) (reply.asked - began),
+  echo_plain 1 reply.is_other later is,
+)
+
 pub messages_are_read_as_meant : MessagesAreReadAsMeant
-messages_are_read_as_meant rules placed =
-    read_as_meant (placed_members rules placed) (
+messages_are_read_as_meant rules placed reply =
+    read_as_meant (placed_members rules placed reply) (
       plain (codes "item") refl,
       tt,
       (
@@ -204,7 +231,8 @@ messages_are_read_as_meant rules placed =
                 (
                   plain (codes "end") refl,
                   stamp_plain placed.extent.last.micros,
-                  functional_plain placed.extent.is_functional (ruled_text rules placed.sent.1) (message_plain rules placed.sent.1),
+                  reply_plain reply placed.extent.first.micros _
+                      (functional_plain placed.extent.is_functional (ruled_text rules placed.sent.1) (message_plain rules placed.sent.1)),
                 ),
               ),
             ),

@@ -1,21 +1,22 @@
 -- A text of plain strings and of numbers of 64 bits is read as what it means.
-use Rattle.std.proofs.Common.{◌≡◌, ℕ, zero, suc, ◌≤◌, List, [], ◌∷◌, ◌++◌, Bool, true, false, Option, Some, decimal, refl, sym, ap, ap₂, ◌∙◌, arith, append_assoc, append-nil, codes}
+use Rattle.std.proofs.Common.{◌≡◌, ℕ, zero, suc, ◌^◌, ◌<◌, ◌≤◌, negsuc, List, [], ◌∷◌, ◌++◌, Bool, true, false, Option, Some, decimal, refl, sym, ap, ap₂, ◌∙◌, arith, append_assoc, append-nil, codes}
 use Rattle.std.specs.Prelude.{⊤, option_and_then, option_map}
 use Rattle.json.specs.Token.{Token}
 use Rattle.json.specs.Lex.{tokens}
 use Rattle.json.specs.Print.{print, print_from, quoted}
 use Rattle.json.specs.Json as json
 use Rattle.json.specs.Tree.{json_tokens, members_tokens, depth, members_depth, HasNumbers, MembersHaveNumbers}
-use Rattle.json.proofs.Printed.Decimals.{IsNumber-decimal}
+use Rattle.json.specs.Print.{IsNumber}
+use Rattle.json.proofs.Printed.Decimals.{IsNumber-decimal, IsNumber-signed_decimal}
 use Rattle.json.proofs.Printed.Tokens.{tokens-print}
 use Rattle.json.proofs.Printed.Trees.{ArePrintable-json_tokens, value-json_tokens}
 use Rattle.serde_json.specs.Data as reader
 use Rattle.serde_json.specs.Data.{put}
 use Rattle.serde_json.specs.Read.{max_depth, of_json, of_members}
-use Rattle.serde_json.proofs.Numbers.{number_of-decimal}
+use Rattle.serde_json.proofs.Numbers.{number_of-decimal, number_of-negative}
 use Rattle.json_reading.specs.ReadBack.{meant, with_members, HasNumbersOf64Bits, HaveNumbersOf64Bits, IsReadAsMeant}
 use Rattle.json_reading.proofs.PlainTexts.{IsPlain, quoted_plain}
-use Rattle.trace_text.specs.Json.{Value, null, truth, number, pair, string, object, Members, nothing, member, value_text, members_text, later_text}
+use Rattle.trace_text.specs.Json.{Value, null, truth, number, below_zero, pair, string, object, Members, nothing, member, value_text, members_text, later_text}
 
 -- the value as the reader's grammar has it
 abbrev mutual
@@ -23,6 +24,7 @@ abbrev mutual
   tree null = json.null
   tree (truth b) = json.boolean b
   tree (number n) = json.number (decimal n)
+  tree (below_zero n) = json.number (codes "-" ++ decimal n)
   tree (pair one other) = json.array (json.item (json.number (decimal one)) (json.item (json.number (decimal other)) json.no_items))
   tree (string text) = json.string text
   tree (object members) = json.object (trees members)
@@ -37,6 +39,7 @@ abbrev mutual
   IsPlainValue deep null = ⊤
   IsPlainValue deep (truth b) = ⊤
   IsPlainValue deep (number n) = ⊤
+  IsPlainValue deep (below_zero n) = ⊤
   IsPlainValue zero (pair one other) = ⊥
   IsPlainValue (suc deep) (pair one other) = ⊤
   IsPlainValue deep (string text) = IsPlain text
@@ -86,6 +89,8 @@ mutual
   print_value deep false (truth false) ts is = refl
   print_value deep true (number n) ts is = refl
   print_value deep false (number n) ts is = refl
+  print_value deep true (below_zero n) ts is = refl
+  print_value deep false (below_zero n) ts is = refl
   print_value zero after (pair one other) ts is = absurd is
   print_value (suc deep) true (pair one other) ts is = ap (λ s. 44 ∷ s) (array_is (decimal one) (decimal other) (print_from true ts))
   print_value (suc deep) false (pair one other) ts is = array_is (decimal one) (decimal other) (print_from true ts)
@@ -113,11 +118,21 @@ text_is_printed deep value is = ap print (sym (append-nil (json_tokens (tree val
 
 -- ---- what the tree means, its numbers, and how deep it is
 
+-- a number below zero is read as what it is, and is a number
+below_zero_means : (n : ℕ) → 0 < n → n ≤ 2 ^ 63 → of_json (json.number (codes "-" ++ decimal n)) ≡ Some (meant (below_zero n))
+below_zero_means zero some fits = absurd (omega arith)
+below_zero_means (suc n) some fits = ap (option_map reader.number) (number_of-negative n (omega arith))
+
+below_zero_is_number : (n : ℕ) → 0 < n → n ≤ 2 ^ 63 → IsNumber (codes "-" ++ decimal n)
+below_zero_is_number zero some fits = absurd (omega arith)
+below_zero_is_number (suc n) some fits = IsNumber-signed_decimal (negsuc n) (omega arith)
+
 mutual
   tree_means : (value : Value) → HasNumbersOf64Bits value → of_json (tree value) ≡ Some (meant value)
   tree_means null fits = refl
   tree_means (truth b) fits = refl
   tree_means (number n) fits = ap (option_map reader.number) (number_of-decimal n fits)
+  tree_means (below_zero n) fits = below_zero_means n fits.0 fits.1
   tree_means (pair one other) fits = rw (number_of-decimal one fits.0, number_of-decimal other fits.1) refl
   tree_means (string text) fits = refl
   tree_means (object members) fits = ap (option_map reader.object) (trees_mean members reader.no_members fits)
@@ -132,6 +147,7 @@ mutual
   tree_has_numbers null fits = tt
   tree_has_numbers (truth b) fits = tt
   tree_has_numbers (number n) fits = IsNumber-decimal n fits
+  tree_has_numbers (below_zero n) fits = below_zero_is_number n fits.0 fits.1
   tree_has_numbers (pair one other) fits = (IsNumber-decimal one fits.0, (IsNumber-decimal other fits.1, tt))
   tree_has_numbers (string text) fits = tt
   tree_has_numbers (object members) fits = trees_have_numbers members fits
@@ -145,6 +161,7 @@ mutual
   tree_depth deep null is = omega arith
   tree_depth deep (truth b) is = omega arith
   tree_depth deep (number n) is = omega arith
+  tree_depth deep (below_zero n) is = omega arith
   tree_depth zero (pair one other) is = absurd is
   tree_depth (suc deep) (pair one other) is = omega arith
   tree_depth deep (string text) is = omega arith

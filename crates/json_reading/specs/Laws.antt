@@ -1,5 +1,5 @@
 -- What is told as JSON is read as it is meant.
-use Rattle.std.specs.Prelude.{ℕ, Bool, List}
+use Rattle.std.specs.Prelude.{ℕ, Bool, List, Option}
 use Rattle.can_log.specs.Frame.{FrameValue}
 use Rattle.json_reading.specs.ReadBack.{IsReadAsMeant}
 use Rattle.trace_canon.specs.declared.comparer.Comparison.{Comparison}
@@ -10,6 +10,7 @@ use Rattle.trace_text.specs.RemarkLines.{remark_members}
 use Rattle.trace_canon.specs.CreditLines.{credit_object}
 use Rattle.trace_text.specs.ItemLines.{item_object}
 use Rattle.trace_canon.specs.MessagesScript.{PlacedMessage, placed_members}
+use Rattle.trace_canon.specs.OpenRequests.{ReplyValue}
 use Rattle.uds_exchange.specs.Meaning.{ItemValue}
 use Rattle.uds_rules.specs.Rule.{RuleValue}
 use Rattle.uds_find.specs.Finding.{FoundUnit, credit_line}
@@ -18,9 +19,10 @@ use Rattle.uds_find.specs.Finding.{FoundUnit, credit_line}
 abbrev pub ItemsAreReadAsMeant : Type 0
 ItemsAreReadAsMeant = (rules : List RuleValue) (numbering : Numbering) (n : ℕ) (item : ItemValue) → IsReadAsMeant (item_object rules numbering n item)
 
--- a message with its place
+-- a message with its place, and with what is told of it as a reply
 abbrev pub MessagesAreReadAsMeant : Type 0
-MessagesAreReadAsMeant = (rules : List RuleValue) (placed : PlacedMessage) → IsReadAsMeant (placed_members rules placed)
+MessagesAreReadAsMeant =
+    (rules : List RuleValue) (placed : PlacedMessage) (reply : Option ReplyValue) → IsReadAsMeant (placed_members rules placed reply)
 
 -- a remark that explains a log
 abbrev pub RemarksAreReadAsMeant : Type 0

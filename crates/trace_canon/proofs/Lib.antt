@@ -16,6 +16,7 @@ pub mod Sides
 pub mod MovedStarts
 pub mod NextStarts
 pub mod FirstFrames
+pub mod AskedRequests
 pub mod SaidMessages
 pub mod Collecting
 pub mod SessionScripts

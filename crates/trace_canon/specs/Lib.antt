@@ -1,4 +1,5 @@
 pub mod ExplainScript
+pub mod OpenRequests
 pub mod MessagesScript
 pub mod WatchScript
 pub mod Sessions

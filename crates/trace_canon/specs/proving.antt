@@ -2,6 +2,7 @@
 pub mod Writing
 pub mod Saying
 pub mod CanonicalScript
+pub mod Asking
 pub mod MessageSaying
 pub mod Watching
 pub mod Measuring

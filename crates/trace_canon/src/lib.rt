@@ -30,7 +30,7 @@
 //! |---|---|---|
 //! | [`normalise`] | `normaliser`, `canonical_sink`, `canonical_lines`, `progress` | `CanonicalLog` of `trace_log` |
 //! | [`explain`] | `explainer` | `ExplainScript` |
-//! | [`messages`] | `messenger`, `message_objects`, `message_parts` | `MessagesScript` |
+//! | [`messages`] | `messenger`, `message_objects`, `message_parts`, `open_request` | `MessagesScript`, `OpenRequests` |
 //! | [`watch`] | `watcher` | `WatchScript` |
 //! | [`meaning_of`] | `collector`, `length` | `Sessions` |
 //! | [`compare`] | `comparer` | `Compared` |
@@ -72,6 +72,7 @@ mod message_objects;
 mod message_parts;
 mod messenger;
 mod normaliser;
+mod open_request;
 mod progress;
 pub mod reception_starts;
 mod watcher;

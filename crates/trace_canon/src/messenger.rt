@@ -1,15 +1,22 @@
 //! `messages`: a machine that says the line of each message, as it is delivered: with the places of its first frame and
-//! of its last one, which are where these stand in the log.
+//! of its last one, which are where these stand in the log; as JSON, of a reply also how long after its request it came.
 
 ghost use Rattle.isotp_receive.specs.declared.TheConstants.{MESSAGE_LIMIT};
-ghost use Rattle.trace_canon.specs.MessagesScript.{judged_at, placed_line, placed_text, messages_script};
-ghost use Rattle.trace_run.specs.Script.{answers_counts, command, needs_none, says_no_refusal};
+ghost use Rattle.std.specs.Prelude.{◌≡◌, [], OnOk, OnErr};
+ghost use Rattle.uds_exchange.specs.proving.Deciding.{Begins};
+ghost use Rattle.trace_canon.specs.MemoryNeeded.{messages_needs};
+ghost use Rattle.trace_canon.specs.MessagesScript.{judged_at, placed_line, placed_members, messages_script};
+ghost use Rattle.trace_canon.specs.OpenRequests.{reply_behind};
+ghost use Rattle.trace_canon.specs.proving.Asking.{asked_with};
+ghost use Rattle.trace_text.specs.Json.{object_line};
+ghost use Rattle.trace_run.specs.Script.{answers_counts, command, says_no_refusal};
 ghost use Rattle.trace_run.specs.Ran.{RanLenient};
 ghost use Rattle.trace_io.specs.Counted.{IsLowCount};
 ghost use Rattle.trace_log.specs.Devices.{HasLowCounts};
 
 use crate::message_objects::say_message_object;
 use crate::message_parts::FrameExtent;
+use crate::open_request::OpenRequest;
 use crate::reception_starts::{FramePlace, ReceptionStarts};
 use isotp_receive::Pair;
 use std::alloc::{AllocError, Global};
@@ -23,7 +30,8 @@ use uds_rules::Rules;
 
 /// Reads a log and writes a line for each message that is delivered and that rules leave, as it comes, in words or as
 /// an object of JSON: the number that [`list`](crate::list) gives its item, its role in that item, its direction, the
-/// lines and the time stamps of its first frame and its last one, and its bytes.
+/// lines and the time stamps of its first frame and its last one, and its bytes. An object also tells of a reply how long
+/// after its request it came, and of an answer that it is other than was asked; for that alone the open request is kept.
 ///
 /// The target is not flushed.
 pub fn messages<R: Source, W: Target>(
@@ -38,41 +46,46 @@ pub fn messages<R: Source, W: Target>(
 
     // What is answered and written; that it is written before more is read; and what was done with the devices.
     ensures ran { RanLenient R.Source W.Target
-        (command (messages_script notation MESSAGE_LIMIT config.now.rules) says_no_refusal answers_counts needs_none)
+        (command (messages_script notation MESSAGE_LIMIT config.now.rules) says_no_refusal answers_counts
+        (messages_needs notation MESSAGE_LIMIT config.now.rules))
         config.now source.old target.old result source.new target.new }
 {
     let machine = Messenger {
         notation,
         rules: config.rules(),
         starts: ReceptionStarts::start(),
+        asking: OpenRequest::none(alloc),
     };
     run_lenient(alloc, config, machine, source, target)
 }
 
-/// Says the line of each message. It keeps no message.
+/// Says the line of each message. In words it keeps no message.
 #[derive(Drop)]
 pub(crate) struct Messenger<'a> {
     pub notation: Notation,
     pub rules: &'a Rules,
     pub starts: ReceptionStarts,
+    /// The request that is open, of which objects tell.
+    pub asking: OpenRequest,
 }
 
 impl<'a> Machine for Messenger<'a> {
     ghost use Rattle.isotp_receive.specs.declared.TheConstants.{MESSAGE_LIMIT};
     ghost use Rattle.trace_canon.specs.proving.MessageSaying.{SaysMessages};
+    ghost use Rattle.trace_canon.specs.MemoryNeeded.{messages_needs};
     ghost use Rattle.trace_canon.specs.MessagesScript.{messages_script};
-    ghost use Rattle.trace_run.specs.Script.{answers_counts, needs_none};
+    ghost use Rattle.trace_run.specs.Script.{answers_counts};
 
     type Answer = Summary;
 
     ghost stands = { λ rules start T now.
-        SaysMessages start.notation rules T now.notation now.rules.now now.starts };
+        SaysMessages start.notation rules T now.notation now.rules.now now.starts now.asking };
 
     ghost script = { λ rules start. messages_script start.notation MESSAGE_LIMIT rules };
 
     ghost answers = { λ rules start. answers_counts };
 
-    ghost needs = { λ rules start. needs_none };
+    ghost needs = { λ rules start. messages_needs start.notation MESSAGE_LIMIT rules };
 
     #[inline(always)]
     fn is_strict(&self) -> bool {
@@ -86,15 +99,23 @@ impl<'a> Machine for Messenger<'a> {
             micros: seen.micros,
         };
         let first = self.starts.take(here, seen.channel, seen.event);
-        if let Some(message) = seen.message {
-            let extent = FrameExtent {
-                first,
-                last: here,
-                is_functional: seen.channel.is_functional(),
-            };
-            say_message(self.notation, self.rules, &message, extent, out);
+        let Some(message) = seen.message else {
+            return Ok(());
+        };
+        let extent = FrameExtent {
+            first,
+            last: here,
+            is_functional: seen.channel.is_functional(),
+        };
+        match self.notation {
+            Notation::Text => {
+                say_message_line(self.rules, &message, extent, out);
+                Ok(())
+            }
+            Notation::Json => {
+                say_next_object(self.rules, &mut self.asking, &message, extent, out)
+            }
         }
-        Ok(())
     }
 
     fn end<S: TextSink>(
@@ -115,20 +136,27 @@ impl<'a> Machine for Messenger<'a> {
     ) {}
 }
 
-/// Says the line of a message, from its first frame to its last one.
-fn say_message<S: TextSink>(
-    notation: Notation,
+/// Says the object of the next message, with what is told of it as a reply to the open request. Where memory is refused,
+/// nothing is said.
+fn say_next_object<S: TextSink>(
     rules: &Rules,
+    asking: &mut OpenRequest,
     message: &Judged<'_>,
     extent: FrameExtent,
     out: &mut S,
-)
-    ensures { S.says out.old (placed_text notation rules.now (judged_at message.now extent)) out.new }
+) -> Result<(), AllocError>
+    ensures now { OnOk result (asking.new ≡ asked_with message.now.step asking.old message.now.bytes.now extent.last.micros) }
+    ensures says { OnOk result (S.says out.old
+        (object_line (placed_members rules.now (judged_at message.now extent)
+        (reply_behind rules.now asking.old message.now.step message.now.bytes.now)))
+        out.new) }
+    ensures needs { OnErr result (Begins message.now.step) }
+    ensures err { OnErr result (S.says out.old [] out.new) }
 {
-    match notation {
-        Notation::Text => say_message_line(rules, message, extent, out),
-        Notation::Json => say_message_object(rules, message, extent, out),
-    }
+    let reply = asking.reply(rules, message);
+    asking.take(message, extent.last.micros)?;
+    say_message_object(rules, message, extent, reply, out);
+    Ok(())
 }
 
 /// Says the line of a message in words.

@@ -14,7 +14,7 @@ use Rattle.trace_text.specs.Json.{object, Members, nothing, member, value_text}
 use Rattle.uds_rules.specs.Rule.{RuleValue}
 use Rattle.trace_text.specs.Laws.{IsOfBytes, IsLeftBy, EqualListsHaveEqualTexts}
 use Rattle.trace_text.specs.RuledText.{ruled_text}
-use Rattle.trace_text.specs.ItemLines.{outcome_text, outcome_members, item_text, item_members, item_object, number_text, list_text, list_text_from}
+use Rattle.trace_text.specs.ItemLines.{outcome_text, item_text, item_members, item_object, number_text, list_text, list_text_from}
 use Rattle.trace_text.specs.proving.OpenItems.{front_of_object}
 use Rattle.trace_text.specs.proving.Spelling.{later_then, members_then, value_then}
 use Rattle.trace_text.specs.Words.{direction_text, service_text, code_text}
@@ -22,7 +22,7 @@ use Rattle.trace_text.proofs.JsonTexts.{value_is}
 use Rattle.trace_text.proofs.JoinedTexts.{three_parts, four_parts, six_parts}
 use Rattle.trace_text.proofs.TextWords.{strip}
 use Rattle.trace_text.proofs.SpelledMembers.{word_of, AreWorded, spelled, words_same}
-use Rattle.trace_text.proofs.ItemWords.{item_worded, item_same}
+use Rattle.trace_text.proofs.ItemWords.{worded_outcome, worded_item, item_members_spelled, item_worded, item_same}
 
 abbrev behind : List ℕ → List ℕ
 behind rest = codes "}" ++ (codes "\n" ++ rest)
@@ -37,7 +37,7 @@ members_spelled n (member key value later) rest worded =
 
 outcome_spelled : (rules : List RuleValue) (b c : Bool) (r : List ℕ) (a : Option (List ℕ)) (rest : List ℕ)
     → is_negative_response (unwrap_or a []) ≡ b → is_suppressing r ≡ c
-    → codes " -> " ++ (outcome_text rules r a ++ (codes "\n" ++ rest)) ≡ spelled Text 3 (outcome_members rules r a) rest
+    → codes " -> " ++ (outcome_text rules r a ++ (codes "\n" ++ rest)) ≡ spelled Text 3 (worded_outcome rules r a) rest
 outcome_spelled rules true c r (Some a) rest so how =
     rw so (ap (λ l. codes " -> " ++ l) (four_parts (codes "negative ") (code_text (response_code a)) (codes " ") (ruled_text rules a)
     (codes "\n" ++ rest)))
@@ -55,7 +55,7 @@ lead Text = codes " "
 lead Json = codes "\","
 
 item_spelled : (rules : List RuleValue) (notation : Notation) (item : ItemValue) (rest : List ℕ)
-    → lead notation ++ item_then rules notation item rest ≡ spelled notation 0 (item_members rules item) rest
+    → lead notation ++ item_then rules notation item rest ≡ spelled notation 0 (worded_item rules item) rest
 item_spelled rules Text (exchange r a) rest =
     ap (λ l. codes " " ++ l) (six_parts (codes "exchange ") (service_text (sid r)) (codes " ") (ruled_text rules r) (codes " -> ")
     (outcome_text rules r a) (codes "\n" ++ rest))
@@ -63,8 +63,10 @@ item_spelled rules Text (exchange r a) rest =
     (outcome_spelled rules _ _ r a rest refl refl)
 item_spelled rules Text (stray d bytes) rest = ap (λ l. codes " " ++ l)
     (four_parts (codes "stray ") (direction_text d) (codes " ") (ruled_text rules bytes) (codes "\n" ++ rest))
-item_spelled rules Json (exchange r a) rest = members_spelled 0 (item_members rules (exchange r a)) rest (item_worded rules (exchange r a))
-item_spelled rules Json (stray d bytes) rest = members_spelled 0 (item_members rules (stray d bytes)) rest (item_worded rules (stray d bytes))
+item_spelled rules Json (exchange r a) rest =
+    ap (λ l. codes "\"," ++ l) (item_members_spelled rules (exchange r a) (behind rest))
+    ∙ members_spelled 0 (worded_item rules (exchange r a)) rest (item_worded rules (exchange r a))
+item_spelled rules Json (stray d bytes) rest = members_spelled 0 (worded_item rules (stray d bytes)) rest (item_worded rules (stray d bytes))
 
 abbrev styled : Notation → Numbering → ItemStyle
 styled notation numbering = record { numbering = numbering; notation = notation }
@@ -111,7 +113,7 @@ lists_same rules notation numbering number (x ∷ xs) [] small few left kept is 
 lists_same rules notation numbering number (x ∷ xs) (y ∷ ys) small few left kept is =
     let both = strip (front_of notation numbering number) _ _
     (sym (line_then rules notation numbering number x xs) ∙ is ∙ line_then rules notation numbering number y ys) in
-    let parts = words_same notation 0 (item_members rules x) (item_members rules y) _ _ (item_worded rules x) (item_worded rules y)
+    let parts = words_same notation 0 (worded_item rules x) (worded_item rules y) _ _ (item_worded rules x) (item_worded rules y)
     (sym (item_spelled rules notation x _) ∙ ap (λ l. lead notation ++ l) both ∙ item_spelled rules notation y _) in
     ap₂ (λ z zs. z ∷ zs) (item_same rules x y small.0 few.0 left.0 kept.0 parts.0)
     (lists_same rules notation numbering (number + 1) xs ys small.1 few.1 left.1 kept.1 parts.1)

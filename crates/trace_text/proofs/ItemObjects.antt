@@ -8,12 +8,13 @@ use Rattle.trace_text.specs.declared.item_style.Numbering.{Numbering}
 use Rattle.trace_text.specs.declared.item_style.Numbering.TheVariants.{Shown, Hidden}
 use Rattle.trace_text.specs.Json.{Members, nothing, member, object, object_line, value_text}
 use Rattle.trace_text.specs.Json as json
+use Rattle.uds_echo.specs.Echo.{answers_other}
 use Rattle.uds_rules.specs.Rule.{RuleValue}
 use Rattle.trace_text.specs.RuledText.{ruled_text}
 use Rattle.trace_text.specs.Words.{direction_text, service_text, code_text}
-use Rattle.trace_text.specs.ItemLines.{outcome_members, item_members, item_object}
+use Rattle.trace_text.specs.ItemLines.{echo_member, outcome_members, item_members, item_object}
 use Rattle.trace_text.specs.proving.Spelling.{later_then, members_then}
-use Rattle.trace_text.specs.proving.OpenItems.{open_item, open_object, open_outcome}
+use Rattle.trace_text.specs.proving.OpenItems.{front_of_positive, open_item, open_object, open_outcome}
 use Rattle.trace_text.proofs.JsonTexts.{members_are, line_is}
 use Rattle.trace_text.proofs.JoinedTexts.{four_parts, five_parts}
 
@@ -25,16 +26,17 @@ end_then behind = codes "\"}" ++ behind
 abbrev closed : Members → List ℕ → List ℕ
 closed members behind = codes "\"" ++ later_then members (codes "}" ++ behind)
 
--- an answer, by whether it is negative
-answer_by : (negative : Bool) (code bytes behind : List ℕ)
+-- an answer, by whether it is negative, or other than was asked
+answer_by : (negative is_other : Bool) (code bytes behind : List ℕ)
     → (if negative then codes "\",\"outcome\":\"negative\",\"code\":\"" ++ code ++ codes "\",\"answer\":\"" ++ bytes
-    else codes "\",\"outcome\":\"positive\",\"answer\":\"" ++ bytes) ++ end_then behind
+    else front_of_positive is_other ++ bytes) ++ end_then behind
     ≡ closed (if negative then member (codes "outcome") (json.string (codes "negative"))
     (member (codes "code") (json.string code) (member (codes "answer") (json.string bytes) nothing))
-    else member (codes "outcome") (json.string (codes "positive")) (member (codes "answer") (json.string bytes) nothing)) behind
-answer_by true code bytes behind = four_parts (codes "\",\"outcome\":\"negative\",\"code\":\"") code (codes "\",\"answer\":\"") bytes
+    else member (codes "outcome") (json.string (codes "positive")) (echo_member is_other (member (codes "answer") (json.string bytes) nothing))) behind
+answer_by true is_other code bytes behind = four_parts (codes "\",\"outcome\":\"negative\",\"code\":\"") code (codes "\",\"answer\":\"") bytes
     (end_then behind)
-answer_by false code bytes behind = append_assoc (codes "\",\"outcome\":\"positive\",\"answer\":\"") bytes (end_then behind)
+answer_by false true code bytes behind = append_assoc (front_of_positive true) bytes (end_then behind)
+answer_by false false code bytes behind = append_assoc (front_of_positive false) bytes (end_then behind)
 
 -- no answer, by whether none was asked for
 none_by : (asked : Bool) (behind : List ℕ)
@@ -45,8 +47,8 @@ none_by false behind = refl
 
 outcome_is : (rules : List RuleValue) (request : List ℕ) (reply : Option (List ℕ)) (behind : List ℕ)
     → open_outcome rules request reply ++ end_then behind ≡ closed (outcome_members rules request reply) behind
-outcome_is rules request (Some reply) behind = answer_by (is_negative_response reply) (code_text (response_code reply))
-    (ruled_text rules reply) behind
+outcome_is rules request (Some reply) behind = answer_by (is_negative_response reply) (answers_other rules request reply)
+    (code_text (response_code reply)) (ruled_text rules reply) behind
 outcome_is rules request None behind = none_by (is_suppressing request) behind
 
 -- an item, with its key

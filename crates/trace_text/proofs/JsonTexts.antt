@@ -1,6 +1,6 @@
 -- An object of JSON is the same text, put together from the front or from the back.
 use Rattle.std.proofs.Common.{◌≡◌, ℕ, true, false, List, ◌++◌, decimal, refl, ap, ◌∙◌, append_assoc, codes}
-use Rattle.trace_text.specs.Json.{Value, null, truth, number, pair, string, object, Members, nothing, member, in_quotes, value_text, members_text, later_text, object_line}
+use Rattle.trace_text.specs.Json.{Value, null, truth, number, below_zero, pair, string, object, Members, nothing, member, in_quotes, value_text, members_text, later_text, object_line}
 use Rattle.trace_text.specs.proving.Spelling.{quotes_then, value_then, members_then, later_then}
 
 quotes_are : (text behind : List ℕ) → in_quotes text ++ behind ≡ quotes_then text behind
@@ -27,6 +27,7 @@ mutual
   value_is (truth true) behind = refl
   value_is (truth false) behind = refl
   value_is (number n) behind = refl
+  value_is (below_zero n) behind = refl
   value_is (pair one other) behind = array_is (decimal one) (decimal other) behind
   value_is (string text) behind = quotes_are text behind
   value_is (object members) behind =

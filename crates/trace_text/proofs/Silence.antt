@@ -26,6 +26,7 @@ word (member key (string text) later) = text
 word (member key json.null later) = codes ""
 word (member key (json.truth b) later) = codes ""
 word (member key (json.number n) later) = codes ""
+word (member key (json.below_zero n) later) = codes ""
 word (member key (json.pair one other) later) = codes ""
 word (member key (json.object inner) later) = codes ""
 

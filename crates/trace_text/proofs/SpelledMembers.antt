@@ -1,17 +1,18 @@
 -- The words of members, and how each notation spells them: equal texts have equal words.
-use Rattle.std.proofs.Common.{◌≡◌, ℕ, ◌+◌, ◌<◌, List, [], ◌∷◌, ◌++◌, arith, refl, ap, ap₂, sym, ◌∙◌, append_assoc, codes, get_or}
+use Rattle.std.proofs.Common.{◌≡◌, ◌⊎◌, inl, inr, ℕ, ◌+◌, ◌<◌, List, [], ◌∷◌, ◌++◌, arith, refl, ap, ap₂, sym, ◌∙◌, append_assoc, codes, get_or}
 use Rattle.std.specs.Prelude.{⊤, ◌==◌, if◌then◌else◌}
 use Rattle.trace_text.specs.declared.notation.Notation.{Notation}
 use Rattle.trace_text.specs.declared.notation.Notation.TheVariants.{Text, Json}
 use Rattle.trace_text.specs.Json.{Value, string, object, Members, nothing, member}
 use Rattle.trace_text.specs.Json as json
-use Rattle.trace_text.proofs.TextWords.{IsWord, first_of, strip, cut}
+use Rattle.trace_text.proofs.TextWords.{IsWord, name_word, first_of, strip, cut}
 
 abbrev pub word_of : Value → List ℕ
 word_of (string word) = word
 word_of json.null = []
 word_of (json.truth b) = []
 word_of (json.number n) = []
+word_of (json.below_zero n) = []
 word_of (json.pair one two) = []
 word_of (object members) = []
 
@@ -19,10 +20,18 @@ abbrev pub words_of : Members → List (List ℕ)
 words_of nothing = []
 words_of (member key value later) = word_of value ∷ words_of later
 
--- keys and values are words
+-- the key of an answer behind the mark that it is other than was asked: so this mark is in no word of an item
+abbrev pub marked_key : List ℕ
+marked_key = codes "echo\":false,\"answer"
+
+-- a key is a word, or that one
+abbrev pub IsKey : List ℕ → Type 0
+IsKey key = IsWord key ⊎ (key ≡ marked_key)
+
+-- keys are such ones, and values are words
 abbrev pub AreWorded : Members → Type 0
 AreWorded nothing = ⊤
-AreWorded (member key value later) = IsWord key × (IsWord (word_of value) × ((value ≡ string (word_of value)) × AreWorded later))
+AreWorded (member key value later) = IsKey key × (IsWord (word_of value) × ((value ≡ string (word_of value)) × AreWorded later))
 
 -- what stands before the member of this number
 abbrev pub opening : Notation → ℕ → List ℕ
@@ -49,10 +58,23 @@ ends_low Text n (member key value later) rest = omega arith
 ends_low Json n nothing rest = omega arith
 ends_low Json n (member key value later) rest = omega arith
 
-key_same : (notation : Notation) (key other x y : List ℕ) → IsWord key → IsWord other → key_text notation key ++ x ≡ key_text notation other ++ y
+-- no word is followed as the key with the mark is
+other_key : (key x y : List ℕ) → IsWord key → key_text Json key ++ x ≡ key_text Json marked_key ++ y → ⊥
+other_key key x y word is =
+    let parts = cut key (codes "echo") (codes "\":\"" ++ x) (codes "\":false,\"answer\":\"" ++ y) word (name_word (codes "echo") refl)
+    (omega arith) (omega arith)
+    (sym (append_assoc key (codes "\":\"") x) ∙ is) in
+    let differ : 34 ≡ 102 = ap (λ l. get_or l 2 0) parts.1 in
+    absurd (omega (arith, differ))
+
+key_same : (notation : Notation) (key other x y : List ℕ) → IsKey key → IsKey other → key_text notation key ++ x ≡ key_text notation other ++ y
     → x ≡ y
 key_same Text key other x y word too is = is
-key_same Json key other x y word too is =
+key_same Json key other x y (inl word) (inr too) is = absurd (other_key key x y word (is ∙ ap (λ k. key_text Json k ++ y) too))
+key_same Json key other x y (inr word) (inl too) is = absurd (other_key other y x too (sym is ∙ ap (λ k. key_text Json k ++ x) word))
+key_same Json key other x y (inr word) (inr too) is =
+    strip (key_text Json marked_key) x y (sym (ap (λ k. key_text Json k ++ x) word) ∙ is ∙ ap (λ k. key_text Json k ++ y) too)
+key_same Json key other x y (inl word) (inl too) is =
     let parts = cut key other (codes "\":\"" ++ x) (codes "\":\"" ++ y) word too (omega arith) (omega arith)
     (sym (append_assoc key (codes "\":\"") x) ∙ is ∙ append_assoc other (codes "\":\"") y) in
     strip (codes "\":\"") x y parts.1

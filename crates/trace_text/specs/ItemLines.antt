@@ -1,6 +1,6 @@
 -- The text of a meaning under rules: a line for each item, numbered from 1 or without a number, in words or as an
 -- object of JSON. The messages are as the rules left them.
-use Rattle.std.specs.Prelude.{ℕ, ◌+◌, List, [], ◌∷◌, ◌++◌, codes, Option, Some, None, if◌then◌else◌}
+use Rattle.std.specs.Prelude.{ℕ, ◌+◌, Bool, true, false, List, [], ◌∷◌, ◌++◌, codes, Option, Some, None, if◌then◌else◌}
 use Rattle.std.specs.Fmt.{decimal}
 use Rattle.uds_exchange.specs.Meaning.{ItemValue, exchange, stray}
 use Rattle.uds_message.specs.Message.{sid, is_negative_response, response_code, is_suppressing}
@@ -11,6 +11,7 @@ use Rattle.trace_text.specs.declared.item_style.Numbering.{Numbering}
 use Rattle.trace_text.specs.declared.item_style.Numbering.TheVariants.{Shown, Hidden}
 use Rattle.trace_text.specs.declared.notation.Notation.{Notation}
 use Rattle.trace_text.specs.declared.notation.Notation.TheVariants.{Text, Json}
+use Rattle.uds_echo.specs.Echo.{answers_other}
 use Rattle.uds_rules.specs.Rule.{RuleValue}
 use Rattle.trace_text.specs.RuledText.{ruled_text}
 use Rattle.trace_text.specs.Words.{direction_text, service_text, code_text}
@@ -41,17 +42,23 @@ number_text Hidden number = []
 abbrev pub worded_line : List RuleValue → Numbering → ℕ → ItemValue → List ℕ
 worded_line rules numbering number item = number_text numbering number ++ item_text rules item ++ codes "\n"
 
--- an answer as members, by whether it is negative
-abbrev pub answer_members : List RuleValue → List ℕ → Members
-answer_members rules reply =
+-- what marks an answer that is other than was asked among the members of an object; no other one is marked
+abbrev pub echo_member : Bool → Members → Members
+echo_member true later = member (codes "echo") (json.truth false) later
+echo_member false later = later
+
+-- an answer to this request as members, by whether it is negative
+abbrev pub answer_members : List RuleValue → List ℕ → List ℕ → Members
+answer_members rules request reply =
     if is_negative_response reply
     then member (codes "outcome") (json.string (codes "negative")) (member (codes "code") (json.string (code_text (response_code reply)))
     (member (codes "answer") (json.string (ruled_text rules reply)) nothing))
-    else member (codes "outcome") (json.string (codes "positive")) (member (codes "answer") (json.string (ruled_text rules reply)) nothing)
+    else member (codes "outcome") (json.string (codes "positive")) (echo_member (answers_other rules request reply)
+    (member (codes "answer") (json.string (ruled_text rules reply)) nothing))
 
 -- what came of a request, as members
 abbrev pub outcome_members : List RuleValue → List ℕ → Option (List ℕ) → Members
-outcome_members rules request (Some reply) = answer_members rules reply
+outcome_members rules request (Some reply) = answer_members rules request reply
 outcome_members rules request None = member (codes "outcome")
     (json.string (if is_suppressing request then codes "silent" else codes "unanswered")) nothing
 

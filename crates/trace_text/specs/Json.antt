@@ -4,11 +4,12 @@ use Rattle.std.specs.Prelude.{ℕ, Bool, true, false, List, [], ◌++◌, codes}
 use Rattle.std.specs.Fmt.{decimal}
 
 mutual
-  -- a value: null, true or false, a number, two numbers, a string, an object
+  -- a value: null, true or false, a number, so much below zero, two numbers, a string, an object
   pub data Value : Type 0 where
     null : Value
     truth : Bool → Value
     number : ℕ → Value
+    below_zero : ℕ → Value
     pair : ℕ → ℕ → Value
     string : List ℕ → Value
     object : Members → Value
@@ -29,6 +30,7 @@ abbrev mutual
   value_text (truth true) = codes "true"
   value_text (truth false) = codes "false"
   value_text (number n) = decimal n
+  value_text (below_zero n) = codes "-" ++ decimal n
   value_text (pair one other) = codes "[" ++ decimal one ++ codes "," ++ decimal other ++ codes "]"
   value_text (string text) = in_quotes text
   value_text (object members) = codes "{" ++ members_text members ++ codes "}"

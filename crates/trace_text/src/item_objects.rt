@@ -20,8 +20,9 @@ use crate::item_style::Numbering;
 use crate::name_parts::{ResponseCode, Sender, ServiceName};
 use crate::numbers::Number;
 use crate::ruled_bytes::RuledBytes;
-use text_parts::{Part, say};
+use text_parts::{Either, Part, say};
 use trace_io::TextSink;
+use uds_echo::answers_other;
 use uds_exchange::Item;
 use uds_message::{is_negative_response, is_suppressing, response_code, sid};
 use uds_rules::Rules;
@@ -198,6 +199,7 @@ impl<'a> Part for OpenOutcome<'a> {
                 out,
                 OpenAnswer {
                     rules: self.rules,
+                    request: self.request,
                     reply,
                 },
             ),
@@ -209,17 +211,22 @@ impl<'a> Part for OpenOutcome<'a> {
 #[derive(Clone, Copy)]
 struct OpenAnswer<'a> {
     rules: &'a Rules,
+    request: &'a [u8],
     reply: &'a [u8],
 }
 
 impl<'a> Part for OpenAnswer<'a> {
     ghost use Rattle.trace_text.specs.proving.OpenItems.{open_answer};
 
-    ghost text = { λ answer. open_answer answer.rules.now answer.reply.now };
+    ghost text = { λ answer. open_answer answer.rules.now answer.request.now answer.reply.now };
 
     #[inline(always)]
     fn say<S: TextSink>(self, out: &mut S) {
-        let OpenAnswer { rules, reply } = self;
+        let OpenAnswer {
+            rules,
+            request,
+            reply,
+        } = self;
         let bytes = RuledBytes {
             rules,
             message: reply,
@@ -235,7 +242,18 @@ impl<'a> Part for OpenAnswer<'a> {
                 ),
             );
         } else {
-            say(out, ("\",\"outcome\":\"positive\",\"answer\":\"", bytes));
+            let is_other = answers_other(rules, request, reply);
+            say(
+                out,
+                (
+                    Either(
+                        is_other,
+                        "\",\"outcome\":\"positive\",\"echo\":false,\"answer\":\"",
+                        "\",\"outcome\":\"positive\",\"answer\":\"",
+                    ),
+                    bytes,
+                ),
+            );
         }
     }
 }

@@ -147,6 +147,7 @@ front true other both = refl
 front false other both = both
 
 pub repeated_is_not_told : RepeatedIsNotTold
+unfolding answers_other
 repeated_is_not_told rules request answer repeats =
     told_only _ _ _ (λ long. untold request asked answer told differs (λ is.
     one_of request asked answer told (asked_count request) 0 (asks_once request answer is (front _ _ long))
@@ -179,6 +180,7 @@ repeated_is_not_told rules request answer repeats =
         plain request place ∙ repeats_plain is place (repeats place from (two request answer is place to)) ∙ sym (plain answer place)
 
 pub asked_is_not_told : AskedIsNotTold
+unfolding answers_other
 asked_is_not_told rules request answer before is within high low =
     told_only _ _ _ (λ long. untold_identifier request asked answer told is
     (one_of request asked answer told (asked_count request) before within (no_other request asked answer told before high low)))
@@ -190,6 +192,7 @@ asked_is_not_told rules request answer before is within high low =
     told = mask_of rules answer
 
 pub masked_is_not_told : MaskedIsNotTold
+unfolding answers_other
 masked_is_not_told rules request answer masked =
     told_only _ _ _ (λ long. untold request asked answer told differs (λ is.
     one_of request asked answer told (asked_count request) 0 (asks_once request answer is (front _ _ long))
@@ -270,10 +273,12 @@ untold_other request asked answer told none =
     ∙ ap (λ count. differ_within (has_sub_function (sid request)) request asked answer told count) (nothing_repeated request answer none)
 
 pub no_other_service_is_told : NoOtherServiceIsTold
+unfolding answers_other
 no_other_service_is_told rules request answer none =
     told_only _ _ _ (λ long. untold_other request (mask_of rules request) answer (mask_of rules answer) none)
 
 pub negative_is_not_told : NegativeIsNotTold
+unfolding answers_other
 negative_is_not_told rules request answer negative = by_service (service_answered (sid answer) == sid request) refl
   where
     rest : Bool

@@ -43,7 +43,7 @@ repeats_others request asked answer told =
 
 -- Whether a positive answer is other than was asked: both messages have all the bytes which a response to the service
 -- repeats, and these differ. A byte that a rule masks differs from none.
-abbrev pub answers_other : List RuleValue → List ℕ → List ℕ → Bool
+unfoldable pub answers_other : List RuleValue → List ℕ → List ℕ → Bool
 answers_other rules request answer =
     service_answered (sid answer) == sid request
     && ((is_longer (repeated_count request answer) request && is_longer (repeated_count request answer) answer)

@@ -13,6 +13,7 @@ const READ_DATA_BY_IDENTIFIER: u8 = 0x22;
 
 /// Whether a positive answer is other than was asked: both messages, which these rules have left, have all the bytes that a
 /// response to the service repeats, and these differ. No other answer is, and a byte that a rule masks differs from none.
+#[tactic(auto, unfolding(crate::specs::Echo::answers_other))]
 pub fn answers_other(rules: &Rules, request: &[u8], answer: &[u8]) -> bool
     ensures { result ≡ Spec.answers_other rules.now request.now answer.now }
 {

@@ -1,7 +1,7 @@
 -- Devices of proof: an object of JSON with the text behind it, put together from the back, as the parts of a line are.
 use Rattle.std.specs.Prelude.{ℕ, true, false, List, ◌++◌, codes}
 use Rattle.std.specs.Fmt.{decimal}
-use Rattle.trace_text.specs.Json.{Value, null, truth, number, pair, string, object, Members, nothing, member}
+use Rattle.trace_text.specs.Json.{Value, null, truth, number, below_zero, pair, string, object, Members, nothing, member}
 
 -- a text between quotes, and what is behind it
 abbrev pub quotes_then : List ℕ → List ℕ → List ℕ
@@ -14,6 +14,7 @@ abbrev mutual
   value_then (truth true) behind = codes "true" ++ behind
   value_then (truth false) behind = codes "false" ++ behind
   value_then (number n) behind = decimal n ++ behind
+  value_then (below_zero n) behind = codes "-" ++ (decimal n ++ behind)
   value_then (pair one other) behind = codes "[" ++ (decimal one ++ (codes "," ++ (decimal other ++ (codes "]" ++ behind))))
   value_then (string text) behind = quotes_then text behind
   value_then (object members) behind = codes "{" ++ members_then members (codes "}" ++ behind)
