@@ -31,7 +31,7 @@ use Rattle.trace_canon.specs.CreditLines as credit
 use Rattle.uds_echo.specs.Echo.{answers_other}
 use Rattle.trace_text.specs.Json.{Members, null, truth, number, below_zero, pair, string, object, nothing, member}
 use Rattle.trace_text.specs.ItemLines.{answer_members, echo_member, outcome_members, item_members, item_object}
-use Rattle.trace_canon.specs.MessagesScript.{functional_member, micros_between, placed_members, reply_members}
+use Rattle.trace_canon.specs.MessagesScript.{functional_member, placed_members, reply_members}
 use Rattle.trace_canon.specs.OpenRequests.{ReplyValue}
 use Rattle.trace_text.specs.Words.{role_text}
 use Rattle.trace_text.specs.RuledText.{ruled_text}

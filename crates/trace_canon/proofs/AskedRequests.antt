@@ -7,17 +7,16 @@ use Rattle.direction.specs.Dir.{Message}
 use Rattle.isotp_receive.specs.Channels.{dir_of}
 use Rattle.isotp_receive.specs.declared.TheConstants.{MESSAGE_LIMIT}
 use Rattle.isotp_receive.specs.Trace.{Entry}
-use Rattle.isotp_receive.specs.Verdict.{VerdictValue, told_message, verdict}
-use Rattle.uds_message.specs.Message.{sid, is_final_for, is_pending_for}
+use Rattle.isotp_receive.specs.Verdict.{VerdictValue, told_message}
+use Rattle.uds_message.specs.Message.{sid}
 use Rattle.uds_rules.specs.Rule.{RuleValue}
 use Rattle.uds_rules.specs.Under.{sent_as, under}
-use Rattle.uds_exchange.specs.Judging.{sent, step_after}
+use Rattle.uds_exchange.specs.Judging.{sent}
 use Rattle.uds_exchange.specs.Laws.{open_with}
 use Rattle.uds_exchange.specs.Meaning.{is_answer_to, is_pending_reply_to, is_tester_request}
 use Rattle.uds_exchange.specs.OneMessage.{step_of}
 use Rattle.uds_exchange.specs.Order.{open_request}
 use Rattle.uds_exchange.specs.declared.judge.Judged.{Judged}
-use Rattle.uds_exchange.specs.declared.step.Step.{Step}
 use Rattle.uds_exchange.specs.declared.step.Step.TheVariants as becomes
 use Rattle.uds_exchange.specs.proving.Deciding.{Begins}
 use Rattle.uds_exchange.proofs.Promises.{open_request_goes_on}

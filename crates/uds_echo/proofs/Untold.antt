@@ -8,10 +8,10 @@ use Rattle.std.proofs.Math.Nat.{eq-or-lt_of_le}
 use Rattle.std.proofs.Math.Bool.{and-false}
 use Rattle.std.proofs.lemmas.Bool.{and_parts}
 use Rattle.std.proofs.lemmas.Bool.Decides.{nat_tests}
-use Rattle.uds_message.specs.Message.{is_negative_response, service_answered, sid}
+use Rattle.uds_message.specs.Message.{service_answered, sid}
 use Rattle.uds_message.specs.Tables.{Service, has_sub_function, service_row_in, services}
 use Rattle.uds_rules.specs.Mask.{MaskValue}
-use Rattle.uds_rules.specs.Rule.{RuleValue, mask_of}
+use Rattle.uds_rules.specs.Rule.{mask_of}
 use Rattle.uds_echo.specs.Left.{compared_at, differ, is_masked_at, number_of, seen_at}
 use Rattle.uds_echo.specs.Repeated.{count_of_service, is_longer, repeated_count, repeats_byte, repeats_identifier}
 use Rattle.uds_echo.specs.Echo.{answers_other, asked_count, differ_at, differ_within, is_none_of, is_other_than, repeats_others}
