@@ -140,6 +140,7 @@ impl<'a> Machine for Reporter<'a> {
                 tally: &chart.tally,
                 summary,
                 times,
+                slowest: chart.times.slowest(),
             },
         };
         say(out, closing);
@@ -171,6 +172,7 @@ impl<'a> Machine for Reporter<'a> {
                 tally: &chart.tally,
                 summary,
                 times,
+                slowest: chart.times.slowest(),
             },
         };
         say(out, closing);
