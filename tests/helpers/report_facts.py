@@ -16,7 +16,7 @@ import oracle
 import profiles
 import standard_names
 from oracle import GIBIBYTE, SIDES, TESTER, UNIT, Outcome
-from report_reader import Block, Count, Facts, Link, Look, Row, Rule, Verdict, golden_words, read, rows_in
+from report_reader import Block, Count, Facts, Link, Look, Row, Rule, Slow, Verdict, golden_words, read, rows_in
 
 TOP = Path(__file__).resolve().parents[2]
 WRITER = TOP / "scripts" / "report-style"
@@ -369,6 +369,23 @@ def span_told(frames):
     return [oracle.stamp(first), oracle.stamp(last), seconds(first, last)]
 
 
+MOST_SLOW = 10
+
+
+def slowest_told(rows):
+    """The slowest answers, and of equal ones the first before the others. One that began before its request ended was not waited for."""
+    answers = [row for row in rows if row_kind(row) in REPLIES and row.first.micros >= row.asked]
+    ordered = sorted(answers, key=lambda row: row.asked - row.first.micros)
+    return [slow_told(rows, answer) for answer in ordered[:MOST_SLOW]]
+
+
+def slow_told(rows, answer):
+    of_item = [row for row in rows if isinstance(row, Message) and row.item == answer.item]
+    pending = sum(row.kind == "pending" for row in of_item)
+    service = said_of_kind(next(row for row in of_item if row.kind == REQUEST))["service"]
+    return Slow(Link(target(answer), link_words(answer)), service, milliseconds(answer.asked, answer.first.micros), f"{pending}" if pending else None)
+
+
 def state(log, frames, counts, rules):
     """What a recording is that is not refused, what `--strict` tells of it, and what the sentences below say of that."""
     told = unclean_words(log, frames, counts)
@@ -440,6 +457,7 @@ def facts_of(log, name=STANDARD_INPUT, refused=None, sides=SIDES, limit=GIBIBYTE
             looks=looks_told(rows),
             counts=counts_told(counts),
             span=span_told(frames),
+            slowest=slowest_told(rows),
         ),
     )
 

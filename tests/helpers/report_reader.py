@@ -28,9 +28,11 @@ Block = namedtuple("Block", "is_open begin bodies")
 Row = namedtuple("Row", "kind identifier item begins_item lines time side is_brief said")
 
 # What `--strict` tells, or why the log is refused; the sentences behind that, by the names of SENTENCES; and the times by the clock.
-Verdict = namedtuple("Verdict", "kind told sentences cause looks counts span")
+Verdict = namedtuple("Verdict", "kind told sentences cause looks counts span slowest")
 Look = namedtuple("Look", "kind number links more")
 Link = namedtuple("Link", "target words")
+# An answer: its item, its service, how long its request waited for it, and how many replies said that it is pending, if some did.
+Slow = namedtuple("Slow", "link service after pending")
 Count = namedtuple("Count", "name number mark")
 
 # A page that was read: its facts, its style, and its other words, each with the place where they stand.
@@ -154,7 +156,7 @@ VERDICT = re.compile(
     r'<section id="verdict" class="(?P<look>\w+)">\n<h2><span aria-hidden="true">(?P<sign>[^<]+)</span> (?P<heading>[^<]+)</h2>\n'
     r"<p>(?:<em>(?P<told>[^<]+)\.</em>(?: |(?=</p>)))?(?P<sentences>.*)</p>\n(?:<p><b>Cause:</b> (?P<cause>.*)\.</p>\n)?"
     r'(?:<ul class="look">\n(?P<looks>(?:<li>.*\n)+)</ul>\n)?<dl class="counts">\n(?P<counts>(?:<div.*\n)+)</dl>\n'
-    r'(?:<p class="span">(?P<span>.*)</p>\n)?</section>\n'
+    r'(?:<p class="span">(?P<span>.*)</p>\n)?(?:<p>(?P<slow>Slowest .*)</p>\n<ol class="look">\n(?P<slowest>(?:<li>.*\n)+)</ol>\n)?</section>\n'
 )
 VERDICTS = {
     "The recording is clean": "clean",
@@ -186,6 +188,7 @@ LOOKS = {
 }
 LOOK = re.compile(r'<li>(?P<words>[^<]+) <b>(?P<number>\d+)</b>: (?P<links>.*?)(?: and (?P<more>\d+) more)?\n')
 LINK = re.compile(r'<a href="#(\w+)">([^<]*)</a>(?:, (?=<)|$)')
+SLOW = re.compile(rf'<li><a href="#(\w+)">([^<]*)</a> (?P<service>\w+) <b>(?P<after>{MILLISECONDS})</b>(?:, (?P<pending>\d+) pending)?\n')
 COUNT = re.compile(r'<div(?: class="(?P<mark>\w+)")?><dt>(?P<name>[^<]+)</dt><dd>(?P<number>\d+)</dd></div>\n')
 
 
@@ -260,7 +263,7 @@ def verdict_of(text, words):
     span = re.findall(TIME, found["span"] or "")
     words.add(("verdict", kind, f"{found['look']} {found['sign']}"))
     words.update(("sentence", name, sentence) for name, sentence in sentences)
-    words.add(("span", "", re.sub(TIME, "#", found["span"] or "")))
+    words.update([("span", "", re.sub(TIME, "#", found["span"] or "")), ("slowest", "", found["slow"] or "")])
     return Verdict(
         kind=kind,
         told=found["told"],
@@ -269,7 +272,12 @@ def verdict_of(text, words):
         looks=[look_of(look) for look in pieces(LOOK, found["looks"] or "")],
         counts=[Count(**count.groupdict()) for count in pieces(COUNT, found["counts"])],
         span=span,
+        slowest=[slow_of(line) for line in pieces(SLOW, found["slowest"] or "")],
     )
+
+
+def slow_of(found):
+    return Slow(Link(*found.group(1, 2)), *found.group("service", "after", "pending"))
 
 
 def look_of(found):

@@ -136,6 +136,13 @@ FAULTS = [
     ("a block that is folded", '<details class="b" open>', '<details class="b">'),
     ("the look of a row", '<tr class="ok">', '<tr class="n">'),
     ("an arrow the other way round", '<use href="#u"/>', '<use href="#t"/>'),
+    ("how long a request waited", "<b>1520.000&#160;ms</b>, 2 pending", "<b>1520.001&#160;ms</b>, 2 pending"),
+    ("how many replies said pending", ", 2 pending", ", 1 pending"),
+    ("that replies said pending", ", 2 pending", ""),
+    ("the service of a slow answer", "RoutineControl <b>", "TransferData <b>"),
+    ("the item of a slow answer", '<li><a href="#i6">item 6</a> Rout', '<li><a href="#i2">item 2</a> Rout'),
+    ("two slow answers exchanged", re.compile(r"(<li><a href=.#i4.*\n)(<li><a href=.#i5.*\n)"), r"\2\1"),
+    ("no slow answers", re.compile(r"<p>Slowest(?:.*\n)*</ol>\n"), ""),
 ]
 
 
@@ -382,9 +389,39 @@ def made_logs():
         ("a text that ends in each byte", log_of_messages(*(b"WBA" + bytes([byte]) for byte in range(256)))),
         ("each byte behind a text", log_of_messages(*(b"WBA3" + bytes([byte]) for byte in range(256)))),
         *((f"{number} of each thing that needs a look", log_of(*number * needing_a_look())) for number in (1, 10, 11, 12)),
+        *slow_logs(),
         *block_logs(),
     ]:
         yield name, log, oracle.SIDES
+
+
+def slow_logs():
+    """Logs of which answers are slow: as many as are told, fewer and more, of equal times, in frames of several, before their request ended,
+    and behind pending replies."""
+    waits = [3, 1, 4, 1, 5, 9, 2, 6, 5, 3, 5, 8, 9, 7, 9, 3, 2, 3, 8, 4]
+    for number in (9, 10, 11, len(waits)):
+        yield f"{number} answers, of other times", slow_log([([REQUEST], wait, [ANSWER]) for wait in waits[:number]])
+    yield "twelve answers, each slower", slow_log([([REQUEST], wait, [ANSWER]) for wait in range(12)])
+    yield "twelve answers of one time", slow_log(12 * [([REQUEST], 5, [ANSWER])])
+    yield "negative and pending ones", slow_log([([REQUEST], 5, [REFUSED]), ([REQUEST], 5, ["7E8#037F2278", "7E8#037F2278", ANSWER]), ([REQUEST], 6, ["7E8#037F2278"])])
+    yield "a request and an answer of several frames", slow_log([(["7E0#100A2EF190414243", "7E0#2144454647"], 7, ["7E8#100A6EF190414243", "7E8#2144454647"])])
+    yield "an answer before the request ended", log_of("7E0#100A2EF190414243", "7E8#100A6EF190414243", "7E0#2144454647", "7E8#2144454647")
+    yield "an answer that begins with the end of its request", slow_log([([REQUEST], 0, [ANSWER])])
+
+
+def slow_log(exchanges):
+    """The log of these exchanges: the frames of a request, how many milliseconds behind its last one the answer begins, and the frames of
+    this. All other frames are a millisecond apart."""
+    lines, now = [], 0
+    for asking, wait, answering in exchanges:
+        for frame in asking:
+            lines.append(tables.stamped(now, frame))
+            now += 1
+        now += wait - 1
+        for frame in answering:
+            lines.append(tables.stamped(now, frame))
+            now += 1
+    return b"".join(lines)
 
 
 def functional_logs():

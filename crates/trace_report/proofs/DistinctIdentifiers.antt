@@ -31,6 +31,7 @@ use Rattle.trace_report.proofs.Distinct.{distinct-append, distinct-texts, each-o
 use Rattle.trace_report.proofs.LineOrder.{grown-few, trace-grows}
 use Rattle.trace_report.proofs.RowPlaces.{ArePlaced, IsWithin, Leads, led_to}
 use Rattle.trace_report.proofs.RowTargets.{all-placed, rows-placed}
+use Rattle.trace_report.proofs.WaitedAnswers.{slowest-lead}
 
 -- Different places have different identifiers.
 
@@ -202,6 +203,7 @@ has-each items lines sides rows are = record {
   negatives = first-lead sort.Negatives (λ place. refl) (targets_in rows) rows are.lead;
   unanswered = first-lead sort.Unanswered (λ place. refl) (targets_in rows) rows are.lead;
   strays = first-lead sort.Strays (λ place. refl) (targets_in rows) rows are.lead;
+  slowest = slowest-lead (targets_in rows) rows are.lead;
 }
 
 pub links_have_targets : LinksHaveTargets

@@ -16,6 +16,7 @@ mod Distinct
 mod LineOrder
 mod RowPlaces
 mod RowTargets
+mod WaitedAnswers
 mod DistinctIdentifiers
 pub mod PageStyle
 pub mod ToldAnswers

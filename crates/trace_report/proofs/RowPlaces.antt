@@ -17,10 +17,10 @@ use Rattle.trace_report.specs.declared.sorts.Sort.{Sort}
 use Rattle.trace_report.specs.declared.sorts.Sort.TheVariants as sort
 use Rattle.trace_report.proofs.Distinct.{among-front, among-last, distinct-more, found-append}
 
--- the place, where rows of this sort are linked to
+-- the place, where rows of this sort are linked to: those that need attention, and the slowest answers
 abbrev pub led_to : Sort → LinkTarget → Option LinkTarget
 led_to sort.Requests place = None
-led_to sort.Positives place = None
+led_to sort.Positives place = Some place
 led_to sort.Negatives place = Some place
 led_to sort.Pendings place = None
 led_to sort.KeepAlives place = None

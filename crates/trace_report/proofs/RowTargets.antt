@@ -92,7 +92,7 @@ module _ (rules : List RuleValue) (T : List Entry) (e : Entry) where
   placed-answer lines sides rows bytes are is =
       elim (cases_Bool (is_negative_response bytes)) [
         | inl negative ↦ placed-quiet count lines sides rows (sent bytes becomes.Answer) are (rw negative refl) (rw negative among)
-        | inr positive ↦ placed-quiet count lines sides rows (sent bytes becomes.Answer) are (rw positive refl) (rw positive tt)
+        | inr positive ↦ placed-quiet count lines sides rows (sent bytes becomes.Answer) are (rw positive refl) (rw positive among)
       ]
     where
       among : IsAmong (of_item (number_after M (dir_of e.channel, bytes))) (targets_in rows)

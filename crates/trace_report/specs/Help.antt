@@ -8,7 +8,7 @@ help_heading = codes "<footer id=\"help\">\n<h2>How to read this page</h2>\n"
 -- the words of the help on times
 abbrev pub times_words : List ℕ
 times_words =
-    codes "Times are in seconds from the first frame of the two identifiers, and those of a message are of its last frame; <i>after</i> is the time from the last frame of the request to the first frame of the reply, with a minus where the clock of the log went back.</p>\n"
+    codes "Times are in seconds from the first frame of the two identifiers, and those of a message are of its last frame; <i>after</i> is the time from the last frame of the request to the first frame of the reply, with a minus where the clock of the log went back. The slowest answers of the verdict go by that time, but for any with a minus, and say how many replies before them were pending.</p>\n"
 
 -- the words of the help on what the page of one log shows
 abbrev pub help_front : List ℕ

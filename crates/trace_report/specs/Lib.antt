@@ -11,6 +11,8 @@ pub mod Blocks
 pub mod Chart
 pub mod Events
 pub mod Links
+pub mod AnswerTimes
+pub mod SlowestLines
 pub mod Counts
 pub mod Looks
 pub mod Causes

@@ -3,6 +3,8 @@
 use Rattle.std.specs.Prelude.{◌≡◌, ℕ, List, ◌∷◌, [], ◌++◌, codes, map, slice_get, Option, Some, None, if◌then◌else◌}
 use Rattle.std.specs.List.{AllByRecursion, filter_map}
 use Rattle.arrayvec.specs.ArrayVec.{ArrayVec}
+use Rattle.slow_answers.specs.declared.answer.SlowAnswer.{SlowAnswer}
+use Rattle.trace_report.specs.AnswerTimes.{slowest_in}
 use Rattle.trace_report.specs.Rows.{RowValue, message, no_answer, dropped, ended, unfinished}
 use Rattle.trace_report.specs.Roles.{begins_item}
 use Rattle.trace_report.specs.Sorts.{first_targets}
@@ -40,6 +42,10 @@ IsAmong x xs = (place : ℕ) × (slice_get xs place ≡ Some x)
 abbrev pub LeadTo : List RowValue → ArrayVec LinkTarget → Type 0
 LeadTo rows targets = AllByRecursion (λ (place : LinkTarget). IsAmong place (targets_in rows)) targets.items
 
+-- links to the items of these answers lead to rows among these
+abbrev pub LeadToItems : List RowValue → List SlowAnswer → Type 0
+LeadToItems rows answers = AllByRecursion (λ (answer : SlowAnswer). IsAmong (target.Item answer.item) (targets_in rows)) answers
+
 -- each link of a verdict on these rows leads to one of them
 pub record HasEachTarget (rows : List RowValue) : Type 0 where
   pub dropped : LeadTo rows (first_targets rows).dropped
@@ -48,3 +54,4 @@ pub record HasEachTarget (rows : List RowValue) : Type 0 where
   pub negatives : LeadTo rows (first_targets rows).negatives
   pub unanswered : LeadTo rows (first_targets rows).unanswered
   pub strays : LeadTo rows (first_targets rows).strays
+  pub slowest : LeadToItems rows (slowest_in rows)

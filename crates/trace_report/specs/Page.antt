@@ -7,6 +7,7 @@ use Rattle.uds_rules.specs.Rule.{RuleValue}
 use Rattle.trace_report.specs.declared.blocks.Blocks.{Blocks}
 use Rattle.trace_report.specs.declared.cause.RefusalCause.{RefusalCause}
 use Rattle.trace_log.specs.declared.summary.Summary.{Summary}
+use Rattle.trace_report.specs.AnswerTimes.{slowest_in}
 use Rattle.trace_report.specs.Blocks.{block_end, blocks_of}
 use Rattle.trace_report.specs.Chart.{rows_text}
 use Rattle.trace_report.specs.Causes.{cause_of}
@@ -72,6 +73,7 @@ findings_of limit rules rows T summary = record {
   summary = summary;
   first = first_time T;
   last = last_time 0 T;
+  slowest = slowest_in rows;
 }
 
 -- the end of a page with this title, behind these rows

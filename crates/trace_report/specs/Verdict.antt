@@ -7,6 +7,8 @@ use Rattle.trace_report.specs.Causes.{cause_line}
 use Rattle.trace_report.specs.Counts.{counts_text}
 use Rattle.trace_report.specs.Links.{attention_text}
 use Rattle.trace_report.specs.Durations.{seconds_between}
+use Rattle.trace_report.specs.SlowestLines.{slowest_text}
+use Rattle.slow_answers.specs.declared.answer.SlowAnswer.{SlowAnswer}
 use Rattle.trace_log.specs.Summing.{is_clean, lacks_line_feed}
 use Rattle.trace_report.specs.declared.cause.RefusalCause.{RefusalCause}
 use Rattle.trace_report.specs.declared.tally.SortCounts.{SortCounts}
@@ -131,7 +133,7 @@ abbrev pub answers_of : List RuleValue → SortCounts → List ℕ
 answers_of rules counts = answers_text rules counts.requests counts.negatives counts.unanswered
 
 -- What was found of a log: the rules that it is under, of how many messages each spoke, the tally of its rows, its
--- counts, and the times of its first frame and of its last one.
+-- counts, the times of its first frame and of its last one, and its slowest answers.
 pub record FindingsValue : Type 0 where
   pub rules : List RuleValue
   pub spoken : List ℕ
@@ -139,12 +141,13 @@ pub record FindingsValue : Type 0 where
   pub summary : Summary
   pub first : ℕ
   pub last : ℕ
+  pub slowest : List SlowAnswer
 
 -- what was found of a log, behind the heading of its verdict
 abbrev pub findings_text : FindingsValue → List ℕ
 findings_text found =
     attention_text found.tally ++ counts_text found.tally.counts found.summary ++ span_of found.summary.frames found.first found.last
-    ++ codes "</section>\n"
+    ++ slowest_text found.slowest ++ codes "</section>\n"
 
 -- the verdict of a log of which this was found
 abbrev pub verdict_text : FindingsValue → List ℕ

@@ -6,6 +6,7 @@ ghost use Rattle.trace_report.specs.Chart.{row_text, rows_text};
 ghost use Rattle.trace_report.specs.Rows.{RowValue, row_of};
 ghost use Rattle.trace_report.specs.proving.Following.{IsChartOf, row_if, rows_in};
 
+use crate::answer_times::AnswerTimes;
 use crate::block_fronts::Opening;
 use crate::blocks::{Blocks, begins_exchange, is_brief, no_blocks, one_more_row};
 use crate::brief_rows::{say_brief_message, say_brief_missing};
@@ -23,6 +24,7 @@ use uds_rules::Rules;
 pub(crate) struct Chart {
     pub blocks: Blocks,
     pub tally: Tally,
+    pub times: AnswerTimes,
 }
 
 impl Chart {
@@ -33,6 +35,7 @@ impl Chart {
         Chart {
             blocks: no_blocks(),
             tally: Tally::start(),
+            times: AnswerTimes::start(),
         }
     }
 
@@ -70,6 +73,7 @@ impl Chart {
         if let Some(row) = row {
             say_next_row(rules, origin, &mut self.blocks, row, out);
             self.tally.take(row);
+            self.times.note(row);
         }
     }
 }

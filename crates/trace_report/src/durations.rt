@@ -19,6 +19,29 @@ impl Part for Seconds {
     }
 }
 
+/// So many microseconds, in milliseconds.
+#[derive(Clone, Copy)]
+pub(crate) struct Duration(pub u64);
+
+impl Part for Duration {
+    ghost use Rattle.trace_report.specs.Durations.{milliseconds_text};
+
+    ghost text = { λ time. milliseconds_text time.0 };
+
+    fn say<S: TextSink>(self, out: &mut S) {
+        let micros = self.0;
+        say(
+            out,
+            (
+                Number(micros / 1000),
+                ".",
+                ThreeDecimals(micros),
+                "&#160;ms",
+            ),
+        );
+    }
+}
+
 /// The milliseconds from one time to another.
 #[derive(Clone, Copy)]
 pub(crate) struct Milliseconds(pub u64, pub u64);
@@ -31,17 +54,6 @@ impl Part for Milliseconds {
     fn say<S: TextSink>(self, out: &mut S) {
         let Milliseconds(from, to) = self;
         let between = from.abs_diff(to);
-        say(
-            out,
-            (
-                When(from > to, "-"),
-                (
-                    Number(between / 1000),
-                    ".",
-                    ThreeDecimals(between),
-                    "&#160;ms",
-                ),
-            ),
-        );
+        say(out, (When(from > to, "-"), Duration(between)));
     }
 }

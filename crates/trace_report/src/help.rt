@@ -76,7 +76,7 @@ impl Part for TimesWords {
     fn say<S: TextSink>(self, out: &mut S) {
         say(
             out,
-            "Times are in seconds from the first frame of the two identifiers, and those of a message are of its last frame; <i>after</i> is the time from the last frame of the request to the first frame of the reply, with a minus where the clock of the log went back.</p>\n",
+            "Times are in seconds from the first frame of the two identifiers, and those of a message are of its last frame; <i>after</i> is the time from the last frame of the request to the first frame of the reply, with a minus where the clock of the log went back. The slowest answers of the verdict go by that time, but for any with a minus, and say how many replies before them were pending.</p>\n",
         );
     }
 }

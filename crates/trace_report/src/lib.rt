@@ -23,6 +23,7 @@
 //! | the chart: rows one after another, in blocks that fold | `blocks`, `block_fronts`, `chart` | `Blocks`, `Chart` |
 //! | the rows of a frame, by what the frames before it were | `follower`, `extents`, `frames`, `times` | `Events` |
 //! | the rules that a page is under | `rule_words`, `rules_style` | `RuleWords`, `RulesStyle` |
+//! | the slowest answers | `answer_times`, `slowest_lines` | `AnswerTimes`, `SlowestLines` |
 //! | the verdict of a log | `verdict_front`, `verdict`, `spans`, `links`, `counts`, `reasons` | `Links`, `Counts`, `Verdict` |
 //! | why a log is refused | `looks`, `first_bytes`, `cause`, `refusal` | `Looks`, `Causes`, `Verdict` |
 //! | what stands before the rows and behind them | `style`, `front`, `help` | `Style`, `Front`, `Help` |
@@ -33,6 +34,7 @@
 //! | what holds of each page | [`laws`] | `Numbers`, `Laws` |
 #![tactic(auto)]
 
+mod answer_times;
 mod block_fronts;
 mod blocks;
 mod brief_rows;
@@ -72,6 +74,7 @@ mod rules_style;
 mod session;
 mod sessions;
 mod silences;
+mod slowest_lines;
 mod sorts;
 mod spans;
 mod style;

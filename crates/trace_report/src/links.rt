@@ -118,7 +118,7 @@ impl<'a> Part for LinksBehind<'a> {
 
 /// A link to a place: where it leads, and how it is called.
 #[derive(Clone, Copy)]
-struct LinkTo(LinkTarget);
+pub(crate) struct LinkTo(pub LinkTarget);
 
 impl Part for LinkTo {
     ghost use Rattle.trace_report.specs.Links.{link_text};

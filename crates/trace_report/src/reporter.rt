@@ -141,6 +141,7 @@ impl<'a> Machine for Reporter<'a> {
                 tally: &chart.tally,
                 summary,
                 times,
+                slowest: chart.times.slowest(),
             },
         };
         say(out, closing);
@@ -172,6 +173,7 @@ impl<'a> Machine for Reporter<'a> {
                 tally: &chart.tally,
                 summary,
                 times,
+                slowest: chart.times.slowest(),
             },
         };
         say(out, closing);

@@ -9,17 +9,19 @@ use crate::counts::Counts;
 use crate::links::Attention;
 use crate::reasons::{UncleanReasons, WordsUnder};
 use crate::refusal::RefusedHeading;
+use crate::slowest_lines::SlowestText;
 use crate::spans::SpanOf;
 use crate::tally::{SortCounts, Tally};
 use crate::times::{Times, first_of, last_of};
 use crate::verdict_front::VerdictFront;
+use slow_answers::SlowAnswer;
 use text_parts::{Either, Part, When, say};
 use trace_io::TextSink;
 use trace_log::{Fault, Summary};
 use uds_rules::Rules;
 
 /// What was found of a log: the rules that it is under, of how many messages each spoke, the tally of its rows, its
-/// counts, and the times of its first frame and its last one.
+/// counts, the times of its first frame and its last one, and its slowest answers.
 #[derive(Clone, Copy)]
 pub(crate) struct Findings<'a> {
     pub rules: &'a Rules,
@@ -27,6 +29,7 @@ pub(crate) struct Findings<'a> {
     pub tally: &'a Tally,
     pub summary: &'a Summary,
     pub times: Option<Times>,
+    pub slowest: &'a [SlowAnswer],
 }
 
 /// The verdict of a log of which this was found.
@@ -93,6 +96,7 @@ impl<'a> Part for FindingsText<'a> {
             tally,
             summary,
             times,
+            slowest,
             ..
         } = self.0;
         say(
@@ -105,6 +109,7 @@ impl<'a> Part for FindingsText<'a> {
                     first: first_of(times),
                     last: last_of(times),
                 },
+                SlowestText(slowest),
                 "</section>\n",
             ),
         );

@@ -19,6 +19,7 @@ use Rattle.trace_log.specs.Messages.{messages_under}
 use Rattle.trace_canon.specs.declared.reception_starts.FramePlace.{FramePlace}
 use Rattle.trace_canon.specs.declared.reception_starts.ReceptionStarts.{ReceptionStarts}
 use Rattle.trace_canon.specs.ReceptionStarts.{AreStartsAfter, still_begun}
+use Rattle.trace_report.specs.AnswerTimes.{no_request, request_behind, slowest_in}
 use Rattle.trace_report.specs.Blocks.{blocks_of}
 use Rattle.trace_report.specs.Events.{asked_all_in, asked_in, is_exchange_step, is_request_step, ends_nothing, rows_of}
 use Rattle.trace_report.specs.Front.{PageTitleValue}
@@ -28,6 +29,7 @@ use Rattle.trace_report.specs.Rows as row
 use Rattle.trace_run.specs.Spoken.{spoken_counts}
 use Rattle.trace_report.specs.Silences.{silence_of}
 use Rattle.trace_report.specs.Sorts.{tally_of}
+use Rattle.trace_report.specs.declared.answer_times.AnswerTimes.{AnswerTimes}
 use Rattle.trace_report.specs.declared.chart.Chart.{Chart}
 use Rattle.trace_report.specs.declared.extents.ReceptionExtents.{ReceptionExtents}
 use Rattle.trace_report.specs.declared.follower.Follower.{Follower}
@@ -137,10 +139,16 @@ abbrev pub unfinished_if : Dir → Option (ℕ × ℕ) → List RowValue
 unfinished_if d None = []
 unfinished_if d (Some begun) = row.unfinished d begun.0 begun.1 ∷ []
 
+-- this is known of the answers that these rows tell, and of the last request
+pub record AreTimesOf (rows : List RowValue) (times : AnswerTimes) : Type 0 where
+  pub last : times.last ≡ request_behind no_request rows
+  pub slowest : times.slowest ≡ slowest_in rows
+
 -- the chart is said up to these rows
 pub record IsChartOf (rows : List RowValue) (chart : Chart) : Type 0 where
   pub blocks : chart.blocks ≡ blocks_of rows
   pub tally : chart.tally ≡ tally_of rows
+  pub times : AreTimesOf rows chart.times
 
 -- the times of the first frame of a trace and of its last one, if it has frames
 abbrev pub times_of : List Entry → Option Times

@@ -23,4 +23,5 @@ findings_value found = record {
   summary = found.summary.now;
   first = first_of_times found.times;
   last = last_of_times found.times;
+  slowest = found.slowest.now;
 }

@@ -15,11 +15,12 @@ returns-in-Some-clause-stands g c = λ before few is.
     let low = few_blocks before in
     let counts = ap (λ (b : Blocks). b.count) is.blocks in
     let rows = ap (λ (b : Blocks). b.rows) is.blocks in
-    subst (λ (o : Option SessionRow). IsChartOf (before ++ row_if o) (record { blocks = c.say_next_row.new.blocks; tally = c.take.new.self })) (sym c.in-Some.is)
+    subst (λ (o : Option SessionRow). IsChartOf (before ++ row_if o) (record { blocks = c.say_next_row.new.blocks; tally = c.take.new.self; times = c.note.new.self })) (sym c.in-Some.is)
     (record {
       blocks = c.say_next_row.ensures.stands (omega (arith, counts, low.0)) (omega (arith, rows, low.1)) ∙ ap (λ b. blocks_behind b (row ∷ [])) is.blocks
           ∙ sym (blocks_onward no_blocks before (row ∷ []));
       tally = c.take.ensures before (omega arith) is.tally;
+      times = c.note.ensures before is.times;
     })
 
 pub returns-in-Some-clause-says : goal.returns-in-Some-clause-says

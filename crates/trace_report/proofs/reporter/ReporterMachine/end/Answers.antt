@@ -21,6 +21,7 @@ returns-clause-says g c = λ rules start T known stand.
     let low : length (rows_of MESSAGE_LIMIT rules T) < 2 ^ 64 - 3 = omega (arith, known.few, few_rows MESSAGE_LIMIT rules T) in
     let chart = subst (λ (l : List RowValue). IsChartOf l c.say_rows.new.self) (ap (λ l. rows_of MESSAGE_LIMIT rules T ++ l) rows)
     (c.say_rows.ensures.stands (rows_of MESSAGE_LIMIT rules T) low known.chart) in
+    let slow = c.slowest.ensures ∙ chart.times.slowest in
     let first = first_known T c.args.self.times known.times in
     let origin = c.first_of.ensures ∙ first in
     let last = last_known T c.args.self.times known.times in
@@ -37,4 +38,5 @@ returns-clause-says g c = λ rules start T known stand.
       summary = c.args.summary.now;
       first = first i;
       last = last i;
+      slowest = slow i;
     })) c.say.ensures)

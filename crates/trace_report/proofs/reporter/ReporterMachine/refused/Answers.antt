@@ -13,6 +13,7 @@ returns g c = record {
   says = λ rules start T known.
       let ruled : c.args.self.title.rules.now ≡ (title_of start.title).rules = ap (λ (title : PageTitleValue). title.rules) known.same in
       let spoken = c.as_slice.ensures.value ∙ known.spoken in
+      let slow = c.slowest.ensures ∙ known.chart.times.slowest in
       let first = first_known T c.args.self.times known.times in
       let last = last_known T c.args.self.times known.times in
       let front = subst (λ (title : PageTitleValue). g.S.TextSink.says c.args.out.now (front_before title T) c.say_front_before.new.out) known.same
@@ -26,5 +27,6 @@ returns g c = record {
         summary = c.args.summary.now;
         first = first i;
         last = last i;
+        slowest = slow i;
       })) c.say.ensures);
 }

@@ -13,5 +13,6 @@ returns g c =
       summary = c.args.self.0.summary.now;
       first = c.first_of.ensures i;
       last = c.last_of.ensures i;
+      slowest = c.args.self.0.slowest.now;
     }))
     c.say.ensures
