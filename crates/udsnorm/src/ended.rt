@@ -88,7 +88,10 @@ pub enum Matter {
     /// It has no bytes.
     Empty,
     /// It has lines, and no frame with one of these identifiers.
-    Foreign { tester: Id, unit: Id },
+    Foreign {
+        tester: Id,
+        unit: Id,
+    },
     /// Tester and unit look exchanged in it, where these are their identifiers, beside that of functional requests.
     Exchanged {
         tester: Id,
