@@ -78,7 +78,7 @@ OF_LIBRARIES = {
     "trace_canon: proofs": ["trace_run: proofs", "trace_text: proofs", "uds_find: proofs"],
     "shown_bytes: proofs": ["trace_text: proofs", "uds_names: proofs"],
     "pair_words: proofs": ["shown_rows: proofs", "shown_bytes: proofs"],
-    "trace_report: proofs": ["trace_canon: proofs", "shown_bytes: proofs"],
+    "trace_report: proofs": ["trace_canon: proofs", "shown_bytes: proofs", "uds_echo: proofs"],
     "trace_difference: proofs": ["shown_rows: proofs", "trace_canon: proofs"],
     "trace_pair: proofs": ["pair_words: proofs", "trace_report: proofs"],
 }
@@ -90,7 +90,7 @@ OF_PROGRAM |= {f"tests/{test}.py": ["udsnorm: make build"] for test in QUICK_TES
 # The crates beside the program, each with those below it that are checked.
 UP_TO_LOG = ["uds_message", "uds_rules", "uds_exchange", "trace_log"]
 UP_TO_CANON = [*UP_TO_LOG, "uds_find", "trace_run", "trace_text", "trace_canon"]
-PAGES = [*UP_TO_CANON, "uds_names", "uds_difference", "shown_rows", "shown_bytes", "pair_words", "trace_report", "trace_pair"]
+PAGES = [*UP_TO_CANON, "uds_echo", "uds_names", "uds_difference", "shown_rows", "shown_bytes", "pair_words", "trace_report", "trace_pair"]
 LIBRARIES = [*PAGES, "trace_difference", "profile", "asked_profile"]
 TEXTS = [*UP_TO_CANON, "uds_difference", "shown_rows", "trace_difference", "tried_sessions"]
 APART = {

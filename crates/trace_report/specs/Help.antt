@@ -10,12 +10,17 @@ abbrev pub times_words : List ℕ
 times_words =
     codes "Times are in seconds from the first frame of the two identifiers, and those of a message are of its last frame; <i>after</i> is the time from the last frame of the request to the first frame of the reply, with a minus where the clock of the log went back. The slowest answers of the verdict go by that time, but for any with a minus, and say how many replies before them were pending.</p>\n"
 
+-- the words of the help on answers that are other than was asked
+abbrev pub echo_words : List ℕ
+echo_words =
+    codes "A positive answer that has other bytes than its request where it should repeat them (ISO 14229-1) says what it answers and what was asked; a masked byte is not compared. "
+
 -- the words of the help on what the page of one log shows
 abbrev pub help_front : List ℕ
 help_front =
     help_heading
     ++ codes "<p>The left line is the tester, the right line the unit. Each arrow is a message, however many frames carried it, in the order in which the messages were complete. "
-    ++ times_words
+    ++ echo_words ++ times_words
 
 -- the legend of the rows of an exchange
 abbrev pub exchange_legend : List ℕ

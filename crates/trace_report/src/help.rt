@@ -41,6 +41,7 @@ impl Part for HelpFront {
             (
                 HelpHeading,
                 "<p>The left line is the tester, the right line the unit. Each arrow is a message, however many frames carried it, in the order in which the messages were complete. ",
+                "A positive answer that has other bytes than its request where it should repeat them (ISO 14229-1) says what it answers and what was asked; a masked byte is not compared. ",
                 TimesWords,
             ),
         );

@@ -141,6 +141,7 @@ impl<'a> Machine for Reporter<'a> {
                 summary,
                 times,
                 slowest: chart.times.slowest(),
+                others: &chart.echoes.others,
             },
         };
         say(out, closing);
@@ -173,6 +174,7 @@ impl<'a> Machine for Reporter<'a> {
                 summary,
                 times,
                 slowest: chart.times.slowest(),
+                others: &chart.echoes.others,
             },
         };
         say(out, closing);
