@@ -466,6 +466,7 @@ def facts_of(log, name=STANDARD_INPUT, refused=None, sides=SIDES, limit=GIBIBYTE
             span=span_told(frames),
             slowest=slowest_told(rows),
         ),
+        helps_on_answers=any(row_kind(row) in REPLIES for row in rows),
     )
 
 
@@ -522,6 +523,7 @@ def fact_differences(came, want):
         *first_difference("block", list(map(shape_of, came.blocks)), list(map(shape_of, want.blocks))),
         *first_difference("refusal", [came.refused], [want.refused]),
         *first_difference("rule", came.rules, want.rules),
+        *first_difference("words on answers", [came.helps_on_answers], [want.helps_on_answers]),
         *(text for name in Verdict._fields for text in verdict_difference(name, came.verdict, want.verdict)),
     ]
 

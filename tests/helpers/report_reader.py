@@ -14,9 +14,9 @@ STYLE_MARK, BLOCKS_MARK = "[the style]\n", "[the open blocks]\n"
 
 # --- What a page tells ------------------------------------------------------------------------------------------------
 
-# The name of the log, which stands twice, the identifiers, the blocks of rows, why the log is refused, if it is, the rules, and the
-# verdict.
-Facts = namedtuple("Facts", "names sides blocks refused rules verdict")
+# The name of the log, which stands twice, the identifiers, the blocks of rows, why the log is refused, if it is, the rules, the
+# verdict, and whether the help has words on answers.
+Facts = namedtuple("Facts", "names sides blocks refused rules verdict helps_on_answers")
 
 # A rule, and of how many messages of each log it spoke.
 Rule = namedtuple("Rule", "text counts")
@@ -210,6 +210,7 @@ def read(page):
         refused=stop_of(parts["stop"], words),
         rules=rules_of(parts["rules"], words),
         verdict=verdict_of(parts["verdict"], words),
+        helps_on_answers="slowest answers" in parts["help"],
     )
     return Read(facts, front["style"], words)
 

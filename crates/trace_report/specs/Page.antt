@@ -17,7 +17,7 @@ use Rattle.trace_report.specs.OtherAnswers.{last_asked, others_of}
 use Rattle.trace_report.specs.Help.{help_text}
 use Rattle.trace_report.specs.Rows.{RowValue}
 use Rattle.trace_report.specs.RuleWords.{rules_text}
-use Rattle.trace_report.specs.Sorts.{tally_of}
+use Rattle.trace_report.specs.Sorts.{has_answers, tally_of}
 use Rattle.trace_report.specs.Verdict.{FindingsValue, refused_verdict, stop_line, verdict_text}
 use Rattle.trace_log.specs.declared.fault.Fault.{Fault}
 use Rattle.trace_run.specs.Script.{GlimpseValue, RefusalText, Script}
@@ -53,7 +53,7 @@ all_rows limit rules T = rows_of limit rules T ++ end_rows limit rules T
 
 -- what stands behind the blocks of rows, with this verdict, of a log of which this was found
 abbrev pub behind_blocks : FindingsValue → List ℕ → List ℕ
-behind_blocks found verdict = codes "</main>\n" ++ rules_text found.rules found.spoken ++ verdict ++ help_text
+behind_blocks found verdict = codes "</main>\n" ++ rules_text found.rules found.spoken ++ verdict ++ help_text (has_answers found.tally.counts)
 
 -- the end of a page, behind rows that left these blocks, of a log of which this was found
 abbrev pub page_end : Blocks → FindingsValue → List ℕ
