@@ -79,13 +79,15 @@ def units(cases):
     for name, functional, given, status, output, error in [
         ("a unit", "7DF", [], DONE, b"1 exchange TesterPresent 3E00 -> positive 7E00\n", b""),
         ("a unit in lower case", "7df", [], DONE, b"1 exchange TesterPresent 3E00 -> positive 7E00\n", b""),
-        ("an option beside it", "7DF", TO_ALL, WORDS, b"", b"--functional beside p.toml, which has it\n"),
+        ("an option beside it", "7DF", TO_ALL, WORDS, b"", b"--functional beside p.toml, which has units\n"),
         ("of the tester", "7E0", [], WORDS, b"", b"p.toml: unit 1: functional identifier is that of tester or unit\n"),
         ("no identifier", "x", [], WORDS, b"", b"p.toml: unit 1: functional: not three or eight hexadecimal digits\n"),
         ("out of range", "800", [], WORDS, b"", b"p.toml: unit 1: functional: identifier out of range\n"),
     ]:
         Path("p.toml").write_text(unit.format(functional))
         cases.case(f"{name}, {functional}", cases.run(["list", "--profile", "p.toml", *given], log), status, output, error)
+    Path("p.toml").write_text(unit.replace('functional = "{}"\n', ""))
+    cases.case("an option beside a unit that has none", cases.run(["list", "--profile", "p.toml", *TO_ALL], log), WORDS, b"", b"--functional beside p.toml, which has units\n")
 
 
 def beside_receptions(cases):

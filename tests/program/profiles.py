@@ -138,10 +138,10 @@ def orders(cases):
     """What is told where several things are wrong: the parser's words, the profile, what stands beside it, the rest."""
     engine = written(ENGINE)
     for name, words, line in [
-        ("--tester beside units", ["--tester", "x"], b"--tester beside p.toml, which has it\n"),
-        ("--unit beside units", ["--unit", "7E8"], b"--unit beside p.toml, which has it\n"),
-        ("both", ["--unit", "7E8", "--tester", "7E0"], b"--tester beside p.toml, which has it\n"),
-        ("beside units, and no such unit", ["--only", "x", "--unit", "7E8"], b"--unit beside p.toml, which has it\n"),
+        ("--tester beside units", ["--tester", "x"], b"--tester beside p.toml, which has units\n"),
+        ("--unit beside units", ["--unit", "7E8"], b"--unit beside p.toml, which has units\n"),
+        ("both", ["--unit", "7E8", "--tester", "7E0"], b"--tester beside p.toml, which has units\n"),
+        ("beside units, and no such unit", ["--only", "x", "--unit", "7E8"], b"--unit beside p.toml, which has units\n"),
         ("no such unit", ["--only", "gearbox"], b"p.toml: no unit gearbox\n"),
         ("another case", ["--only", "Engine"], b"p.toml: no unit Engine\n"),
         ("a hostile name", ["--only", "a\nb"], b"p.toml: no unit $'a\\x0Ab'\n"),
@@ -152,7 +152,7 @@ def orders(cases):
     several = written(ENGINE + GEARBOX + BRAKE)
     choose = b"p.toml has 3 units: choose one by --only: engine, gearbox, brake\n"
     cases.case("several units", cases.run(["list", *several], FIRST), WORDS, b"", choose)
-    cases.case("several units, and --tester", cases.run(["list", *several, "--tester", "7E0"], FIRST), WORDS, b"", b"--tester beside p.toml, which has it\n")
+    cases.case("several units, and --tester", cases.run(["list", *several, "--tester", "7E0"], FIRST), WORDS, b"", b"--tester beside p.toml, which has units\n")
     cases.case("no units", cases.run(["list", *written('drop = ["3E"]'), "--only", "engine"], FIRST), WORDS, b"", b"p.toml has no units\n")
     cases.case("no profile", cases.run(["list", "--only", "engine", "--tester", "x"], FIRST), WORDS, b"", b"--only without --profile\n")
     cases.case("a wrong profile, and --tester", cases.run(["list", *written("x = 1"), "--tester", "x"], FIRST), WORDS, b"", b"p.toml: x: unknown key\n")

@@ -59,9 +59,9 @@ IsConfiguredIn rows result = IsConfiguredBy (tester_in rows) (unit_in rows) (fun
 abbrev pub line_about : Text → List ℕ → List ℕ
 line_about file told = quoted file ++ codes ": " ++ told ++ codes "\n"
 
--- an option stands beside a profile that has what it says
+-- an option that says who speaks stands beside a profile with units, which say it
 abbrev pub beside_line : Text → Text → List ℕ
-beside_line option file = codes "--" ++ option ++ codes " beside " ++ quoted file ++ codes ", which has it\n"
+beside_line option file = codes "--" ++ option ++ codes " beside " ++ quoted file ++ codes ", which has units\n"
 
 -- no unit is chosen
 abbrev pub choice_line : Text → List UnitValue → Option Text → ChoiceFault → List ℕ
@@ -108,7 +108,7 @@ side_given None (Some unit) functional = Some (codes "unit")
 side_given None None (Some functional) = Some (codes "functional")
 side_given None None None = None
 
--- the same where units say what they say
+-- the same where units say who speaks
 abbrev pub side_beside : List UnitValue → List Row → Option Text
 side_beside [] rows = None
 side_beside (one ∷ rest) rows =

@@ -112,14 +112,14 @@ fn of_profile(
             option,
             " beside ",
             Quoted(file.as_bytes()),
-            ", which has it\n",
+            ", which has units\n",
         );
         return Err(told(alloc, line));
     }
     of_choice(alloc, file, found, profile)
 }
 
-/// The first of the options for an identifier that is given, where units say what it says.
+/// The first of the options for an identifier that is given, where units say who speaks.
 fn side_beside(units: &[ControlUnit], found: &ArgMatches<'_>) -> Option<&'static str>
     ensures { option_map (λ t. t.now) result ≡ side_beside (map unit_value units.now) (rows_of (found_of found.now)) }
 {
