@@ -297,7 +297,7 @@ def exchanged(cases, folder):
 
 
 def profiles(cases, folder):
-    """A hint under a profile: one that can't be read, sides that look exchanged, and two logs of which the rules leave nothing."""
+    """A hint under a profile: one that can't be read, sides that look exchanged, and one log or two of which the rules leave nothing."""
     for name, text in [
         ("rules.toml", 'drop = ["3E", "7E"]\n'),
         ("two words.toml", 'drop = ["3E", "7E"]\n'),
@@ -321,6 +321,17 @@ def profiles(cases, folder):
     in_profile = 'write tester = "7E0" and unit = "7E8" in swapped.toml'
     for given in [["list", "--profile", "swapped.toml", "short.log"], ["messages", "--only", "engine", "--profile=swapped.toml", "short.log"]]:
         hinted(cases, f"exchanged sides of {shlex.join(given)}", given, folder, 0, told + in_profile)
+    for name, log in [("two words.log", VIN.read_bytes()), ("lost.log", LOST.read_bytes()), ("begun.log", b"(1.000000) can0 7E0#100A2EF190414243\n")]:
+        Path(folder, name).write_bytes(log)
+    for job in over_one_log(cases.program, "--profile"):
+        for name, shown in [("mine.log", "mine.log"), ("two words.log", "$'two words.log'"), ("lost.log", "lost.log")]:
+            told = None if job == "explain" else f"the rules leave nothing of {shown}"
+            hinted(cases, f"{job} of {name} where rules leave nothing", [job, "--profile", "all.toml", name], folder, 0, told)
+        hinted(cases, f"{job} of one log where rules leave something", [job, "--profile", "requests.toml", "mine.log"], folder, 0, None)
+        hinted(cases, f"{job} of no messages under rules", [job, "--profile", "all.toml", "begun.log"], folder, 0, None)
+    left_none = "the rules leave nothing of standard input"
+    hinted(cases, "standard input where rules leave nothing", ["list", "--profile", "all.toml"], folder, 0, left_none, log=VIN.read_bytes())
+    hinted(cases, "a clean log where rules leave nothing", ["list", "--strict", "--profile", "all.toml", "mine.log"], folder, 0, "the rules leave nothing of mine.log")
     for job in ["compare", "diff", "report"]:
         hinted(cases, f"{job} of what rules leave out", [job, "--profile", "all.toml", "mine.log", "whole.log"], folder, 0, "the rules leave nothing of either log")
         hinted(cases, f"{job} of what rules leave", [job, "--profile", "requests.toml", "mine.log", "whole.log"], folder, 0, None)

@@ -69,6 +69,7 @@ hint_line under matter.NoPair log =
     codes "hint: nothing in " ++ log_name log ++ codes " answers another identifier; find needs the frames of both sides, and looks at each identifier up to 1FFFFFFF\n"
 hint_line under (matter.Foreign tester unit) log = foreign_line tester unit log
 hint_line under (matter.Exchanged tester unit) log = exchanged_line under tester unit log
+hint_line under matter.AllLeftOut log = codes "hint: the rules leave nothing of " ++ log_name log ++ codes "\n"
 hint_line under matter.NothingLeft log = codes "hint: the rules leave nothing of either log\n"
 hint_line under matter.Empty log = codes "hint: " ++ log_name log ++ codes " is empty\n"
 hint_line under (matter.Refused cause) log = codes "hint: " ++ refusal_cause_text cause (log_name log) ++ codes "\n"

@@ -81,11 +81,18 @@ abbrev pub knows_dropped_for : Job → ℕ → Option Known
 knows_dropped_for (job.Explain notation) count = None
 knows_dropped_for other count = knows_dropped count
 
+-- it is known of a log that rules leave nothing of it: each of its messages is left out, and there is one
+abbrev pub knows_all_left_out : Summary → Option Known
+knows_all_left_out summary =
+    if (summary.messages == summary.left_out) && nat_lt 0 summary.left_out then knows First matter.AllLeftOut else None
+
 -- What is known of a log that was accepted, by the job over it, the identifiers, its counts and what the output took:
--- that it has no pair, where the job was to find some; and else what its counts tell, or how many frames were dropped.
+-- that it has no pair, where the job was to find some; and else what its counts tell, or that rules leave nothing of it, or
+-- how many frames were dropped.
 abbrev pub known_of_done : Job → Settings → Summary → List ℕ → Option Known
 known_of_done (job.Find style) settings summary taken = knows_no_pair summary taken
-known_of_done other settings summary taken = or_else (known_by_counts First settings summary) (knows_dropped_for other summary.dropped)
+known_of_done other settings summary taken =
+    or_else (known_by_counts First settings summary) (or_else (knows_all_left_out summary) (knows_dropped_for other summary.dropped))
 
 -- it is known of two logs that rules leave nothing of either: each message of both is left out, and there is one
 abbrev pub knows_nothing_left : Summary → Summary → Option Known

@@ -2,7 +2,7 @@
 
 ghost use Rattle.std.specs.Prelude.{◌≡◌, ◌⊎◌, option_map};
 ghost use Rattle.udsnorm.specs.Hints.{name_in};
-ghost use Rattle.udsnorm.specs.Known.{IsKnownBy, IsKnownByFault, IsKnownByTwo, known_by_counts, known_of_done, known_of_pair, knows, knows_nothing_left, knows_dropped, knows_dropped_for, knows_no_pair, knows_refused, knows_unopened};
+ghost use Rattle.udsnorm.specs.Known.{IsKnownBy, IsKnownByFault, IsKnownByTwo, known_by_counts, known_of_done, known_of_pair, knows, knows_all_left_out, knows_nothing_left, knows_dropped, knows_dropped_for, knows_no_pair, knows_refused, knows_unopened};
 ghost use Rattle.udsnorm.specs.declared.ended.Matter.TheVariants as matter;
 
 use crate::commands::Job;
@@ -91,6 +91,8 @@ pub enum Matter {
     Foreign { tester: Id, unit: Id },
     /// Tester and unit look exchanged in it, where these are their identifiers.
     Exchanged { tester: Id, unit: Id },
+    /// Rules leave nothing of it.
+    AllLeftOut,
     /// Rules leave nothing of it, nor of the other one.
     NothingLeft,
     /// So many of its frames were dropped.
@@ -149,7 +151,10 @@ fn known_of_done<W: Target>(job: Job, config: &Config, summary: &Summary, out: &
         Job::Find(_) => known_of_pairs(summary, out),
         _ => match known_by_counts(Which::First, config, summary) {
             Some(known) => Some(known),
-            None => known_of_drops(job, summary.dropped),
+            None => match known_of_left_out(summary) {
+                Some(known) => Some(known),
+                None => known_of_drops(job, summary.dropped),
+            },
         },
     }
 }
@@ -176,6 +181,18 @@ fn knows(which: Which, matter: Matter) -> Option<Known>
     ensures { result ≡ knows which matter }
 {
     Some(Known { which, matter })
+}
+
+/// What is known of a log of which rules leave out each message, where it has one. Where it is explained they leave out
+/// none.
+fn known_of_left_out(summary: &Summary) -> Option<Known>
+    ensures { result ≡ knows_all_left_out summary.now }
+{
+    if summary.messages == summary.left_out && summary.left_out > 0 {
+        knows(Which::First, Matter::AllLeftOut)
+    } else {
+        None
+    }
 }
 
 /// What is known of a log of which so many frames were dropped, where the job is not to explain that.

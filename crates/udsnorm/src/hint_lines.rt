@@ -51,6 +51,7 @@ impl<'a> Part for HintLine<'a> {
                 let options = ExchangedOptions(tester, unit, name);
                 say(out, ExchangedLine { under, options })
             }
+            Matter::AllLeftOut => say(out, ("hint: the rules leave nothing of ", log, "\n")),
             Matter::NothingLeft => say(out, "hint: the rules leave nothing of either log\n"),
             Matter::Empty => say(out, ("hint: ", log, " is empty\n")),
             Matter::Refused(cause) => say(out, ("hint: ", RefusalCauseText(cause, log), "\n")),
