@@ -296,6 +296,36 @@ def exchanged(cases, folder):
         hinted(cases, f"{job} with exchanged sides in one", [job, *swapped, "requests.log", "short.log"], folder, 1, told.format("short.log", " short.log"))
 
 
+def exchanged_to_all(cases, folder):
+    """What exchanges the sides of a run with an identifier of functional requests keeps that, beside a profile, too. Run as it stands, it
+    has what the run without its faults has."""
+    request, answer, to_all = b"(1.000000) can0 7E0#0322F190\n", b"(1.010000) can0 7E8#0462F19041\n", b"(1.020000) can0 7DF#023E80\n"
+    other_way = {b"7E0": b"7E8", b"7E8": b"7E0"}
+    turned = b"".join(line.replace(line[16:19], other_way[line[16:19]]) for line in (request, answer)) + to_all
+    Path(folder, "rules.toml").write_text('drop = ["3E", "7E"]\n')
+    Path(folder, "to all.toml").write_text('[[unit]]\nname = "engine"\ntester = "7E8"\nunit = "7E0"\nfunctional = "7DF"\n')
+    all_units, swapped = ["--functional", "7DF"], ["--tester", "7E8", "--unit", "7E0"]
+    told = "tester and unit look exchanged in to-all.log: "
+    for name, log, given, options in [
+        ("all", request + answer + to_all, [*swapped, *all_units], "--tester 7E0 --unit 7E8 --functional 7DF"),
+        ("all, in lower case", request + answer + to_all, [*swapped, "--functional", "7df"], "--tester 7E0 --unit 7E8 --functional 7DF"),
+        ("29 bits", request + answer, [*swapped, "--functional", "18db33f1"], "--tester 7E0 --unit 7E8 --functional 18DB33F1"),
+        ("all, no side given", turned, all_units, "--tester 7E8 --unit 7E0 --functional 7DF"),
+        ("all, one side given", turned, [*all_units, "--unit", "7E8"], "--tester 7E8 --unit 7E0 --functional 7DF"),
+    ]:
+        Path(folder, "to-all.log").write_bytes(log)
+        for beside, profile in [("", ""), (", beside rules", " --profile=rules.toml")]:
+            command = f"udsnorm list{profile} {options} to-all.log"
+            hinted(cases, f"exchanged sides with {name}{beside}", ["list", *given, *profile.split(), "to-all.log"], folder, 0, told + command)
+            done = subprocess.run(["bash", "-c", command.replace("udsnorm", str(cases.program), 1)], cwd=folder, stdout=subprocess.PIPE, timeout=60)
+            pair = b"1 exchange ReadDataByIdentifier 22F190 -> positive 62F19041\n"
+            want = pair + (b"2 stray tester 3E80\n" if to_all in log and not profile else b"")
+            cases.report(f"what the hint says with {name}{beside}", [] if (done.returncode, done.stdout) == (0, want) else [f"{done}"])
+    Path(folder, "to-all.log").write_bytes(request + answer + to_all)
+    in_profile = told + "write tester = \"7E0\" and unit = \"7E8\" in $'to all.toml'"
+    hinted(cases, "exchanged sides of a unit with functional requests", ["list", "--profile", "to all.toml", "to-all.log"], folder, 0, in_profile)
+
+
 def profiles(cases, folder):
     """A hint under a profile: one that can't be read, sides that look exchanged, and one log or two of which the rules leave nothing."""
     for name, text in [
@@ -460,7 +490,7 @@ def main():
         sys.exit(__doc__)
     cases = Cases(os.path.abspath(sys.argv[1]), sys.argv[2:])
     with tempfile.TemporaryDirectory() as folder:
-        cases.each([files, denied, limits, names, words, values, awaited, pairs, foreign, exchanged, profiles, looks, compressed, cut, drops, silent], folder)
+        cases.each([files, denied, limits, names, words, values, awaited, pairs, foreign, exchanged, exchanged_to_all, profiles, looks, compressed, cut, drops, silent], folder)
     cases.end()
 
 

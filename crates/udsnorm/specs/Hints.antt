@@ -37,22 +37,28 @@ foreign_line tester unit log =
     codes "hint: " ++ log_name log ++ codes " has no frame of " ++ identifier_text tester ++ codes " or " ++ identifier_text unit ++ codes "; udsnorm find" ++ behind_command log
     ++ codes " names its identifiers\n"
 
--- the options that exchange these two identifiers, and the log behind them
-abbrev pub exchanged_options : Id → Id → Option (List ℕ) → List ℕ
-exchanged_options tester unit log = codes " --tester " ++ identifier_text unit ++ codes " --unit " ++ identifier_text tester ++ behind_command log
+-- the option of the identifier of functional requests, where there is one
+abbrev pub functional_option : Option Id → List ℕ
+functional_option None = []
+functional_option (Some functional) = codes " --functional " ++ identifier_text functional
+
+-- the options that exchange these two identifiers and keep that of functional requests, and the log behind them
+abbrev pub exchanged_options : Id → Id → Option Id → Option (List ℕ) → List ℕ
+exchanged_options tester unit functional log =
+    codes " --tester " ++ identifier_text unit ++ codes " --unit " ++ identifier_text tester ++ functional_option functional ++ behind_command log
 
 -- What exchanges these two identifiers: options; under a profile beside which such options stand, these behind it; and else
 -- other values in that, whose units no option stands beside.
-abbrev pub exchanging : Option UnderValue → Id → Id → Option (List ℕ) → List ℕ
-exchanging None tester unit log = codes "udsnorm list" ++ exchanged_options tester unit log
-exchanging (Some under) tester unit log =
-    if under.has_sides then codes "udsnorm list --profile=" ++ quoted under.file ++ exchanged_options tester unit log
+abbrev pub exchanging : Option UnderValue → Id → Id → Option Id → Option (List ℕ) → List ℕ
+exchanging None tester unit functional log = codes "udsnorm list" ++ exchanged_options tester unit functional log
+exchanging (Some under) tester unit functional log =
+    if under.has_sides then codes "udsnorm list --profile=" ++ quoted under.file ++ exchanged_options tester unit functional log
     else codes "write tester = \"" ++ identifier_text unit ++ codes "\" and unit = \"" ++ identifier_text tester ++ codes "\" in " ++ quoted under.file
 
--- about a log in which these two identifiers look exchanged
-abbrev pub exchanged_line : Option UnderValue → Id → Id → Option (List ℕ) → List ℕ
-exchanged_line under tester unit log =
-    codes "hint: tester and unit look exchanged in " ++ log_name log ++ codes ": " ++ exchanging under tester unit log ++ codes "\n"
+-- about a log in which these two identifiers look exchanged, beside that of functional requests
+abbrev pub exchanged_line : Option UnderValue → Id → Id → Option Id → Option (List ℕ) → List ℕ
+exchanged_line under tester unit functional log =
+    codes "hint: tester and unit look exchanged in " ++ log_name log ++ codes ": " ++ exchanging under tester unit functional log ++ codes "\n"
 
 -- about a log with so many dropped frames
 abbrev pub dropped_line : ℕ → Option (List ℕ) → List ℕ
@@ -68,7 +74,7 @@ hint_line under matter.Unread log = codes "hint: reading " ++ log_name log ++ co
 hint_line under matter.NoPair log =
     codes "hint: nothing in " ++ log_name log ++ codes " answers another identifier; find needs the frames of both sides, and looks at each identifier up to 1FFFFFFF\n"
 hint_line under (matter.Foreign tester unit) log = foreign_line tester unit log
-hint_line under (matter.Exchanged tester unit) log = exchanged_line under tester unit log
+hint_line under (matter.Exchanged tester unit functional) log = exchanged_line under tester unit functional log
 hint_line under matter.AllLeftOut log = codes "hint: the rules leave nothing of " ++ log_name log ++ codes "\n"
 hint_line under matter.NothingLeft log = codes "hint: the rules leave nothing of either log\n"
 hint_line under matter.Empty log = codes "hint: " ++ log_name log ++ codes " is empty\n"

@@ -68,7 +68,7 @@ abbrev pub known_by_counts : Which → Settings → Summary → Option Known
 known_by_counts which settings summary =
     if summary.lines == 0 then knows which matter.Empty
     else if summary.frames == 0 then knows which (matter.Foreign settings.tester settings.unit)
-    else if summary.looks_exchanged then knows which (matter.Exchanged settings.tester settings.unit)
+    else if summary.looks_exchanged then knows which (matter.Exchanged settings.tester settings.unit settings.functional)
     else None
 
 -- the one that is known, or else the other

@@ -88,9 +88,16 @@ pub enum Matter {
     /// It has no bytes.
     Empty,
     /// It has lines, and no frame with one of these identifiers.
-    Foreign { tester: Id, unit: Id },
-    /// Tester and unit look exchanged in it, where these are their identifiers.
-    Exchanged { tester: Id, unit: Id },
+    Foreign {
+        tester: Id,
+        unit: Id,
+    },
+    /// Tester and unit look exchanged in it, where these are their identifiers, beside that of functional requests.
+    Exchanged {
+        tester: Id,
+        unit: Id,
+        functional: Option<Id>,
+    },
     /// Rules leave nothing of it.
     AllLeftOut,
     /// Rules leave nothing of it, nor of the other one.
@@ -170,7 +177,15 @@ fn known_by_counts(which: Which, config: &Config, summary: &Summary) -> Option<K
     } else if summary.frames == 0 {
         knows(which, Matter::Foreign { tester, unit })
     } else if summary.looks_exchanged {
-        knows(which, Matter::Exchanged { tester, unit })
+        let functional = config.functional();
+        knows(
+            which,
+            Matter::Exchanged {
+                tester,
+                unit,
+                functional,
+            },
+        )
     } else {
         None
     }

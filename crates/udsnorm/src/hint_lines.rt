@@ -47,8 +47,17 @@ impl<'a> Part for HintLine<'a> {
             Matter::Unread => say(out, ("hint: reading ", log, " failed\n")),
             Matter::NoPair => say(out, ("hint: nothing in ", log, NO_PAIR)),
             Matter::Foreign { tester, unit } => say(out, ForeignLine(tester, unit, name)),
-            Matter::Exchanged { tester, unit } => {
-                let options = ExchangedOptions(tester, unit, name);
+            Matter::Exchanged {
+                tester,
+                unit,
+                functional,
+            } => {
+                let options = ExchangedOptions {
+                    tester,
+                    unit,
+                    functional,
+                    name,
+                };
                 say(out, ExchangedLine { under, options })
             }
             Matter::AllLeftOut => say(out, ("hint: the rules leave nothing of ", log, "\n")),
@@ -101,7 +110,7 @@ impl<'a> Part for ExchangedLine<'a> {
     ghost use Rattle.udsnorm.specs.Hints.{exchanged_line};
     ghost use Rattle.udsnorm.specs.Under.{under_value};
 
-    ghost text = { λ line. exchanged_line (option_map under_value line.under) line.options.0 line.options.1 (option_map (λ t. t.now) line.options.2) };
+    ghost text = { λ line. exchanged_line (option_map under_value line.under) line.options.tester line.options.unit line.options.functional (option_map (λ t. t.now) line.options.name) };
 
     fn say<S: TextSink>(self, out: &mut S) {
         let ExchangedLine { under, options } = self;
@@ -109,7 +118,7 @@ impl<'a> Part for ExchangedLine<'a> {
             out,
             (
                 "hint: tester and unit look exchanged in ",
-                LogName(options.2),
+                LogName(options.name),
                 ": ",
                 Exchanging { under, options },
                 "\n",
@@ -130,7 +139,7 @@ impl<'a> Part for Exchanging<'a> {
     ghost use Rattle.udsnorm.specs.Hints.{exchanging};
     ghost use Rattle.udsnorm.specs.Under.{under_value};
 
-    ghost text = { λ line. exchanging (option_map under_value line.under) line.options.0 line.options.1 (option_map (λ t. t.now) line.options.2) };
+    ghost text = { λ line. exchanging (option_map under_value line.under) line.options.tester line.options.unit line.options.functional (option_map (λ t. t.now) line.options.name) };
 
     fn say<S: TextSink>(self, out: &mut S) {
         match self.under {
@@ -149,7 +158,7 @@ impl<'a> Part for ExchangingUnder<'a> {
     ghost use Rattle.udsnorm.specs.Hints.{exchanging};
     ghost use Rattle.udsnorm.specs.Under.{under_value};
 
-    ghost text = { λ line. exchanging (Some (under_value line.0)) line.1.0 line.1.1 (option_map (λ t. t.now) line.1.2) };
+    ghost text = { λ line. exchanging (Some (under_value line.0)) line.1.tester line.1.unit line.1.functional (option_map (λ t. t.now) line.1.name) };
 
     fn say<S: TextSink>(self, out: &mut S) {
         let ExchangingUnder(under, options) = self;
@@ -157,7 +166,7 @@ impl<'a> Part for ExchangingUnder<'a> {
         if under.has_sides {
             say(out, ("udsnorm list --profile=", file, options));
         } else {
-            let ExchangedOptions(tester, unit, _) = options;
+            let ExchangedOptions { tester, unit, .. } = options;
             say(
                 out,
                 (
@@ -173,18 +182,28 @@ impl<'a> Part for ExchangingUnder<'a> {
     }
 }
 
-/// The options that exchange these two identifiers, and the log behind them.
+/// The options that exchange these two identifiers and keep that of functional requests, and the log behind them.
 #[derive(Clone, Copy)]
-struct ExchangedOptions<'a>(Id, Id, Option<&'a str>);
+struct ExchangedOptions<'a> {
+    tester: Id,
+    unit: Id,
+    functional: Option<Id>,
+    name: Option<&'a str>,
+}
 
 impl<'a> Part for ExchangedOptions<'a> {
     ghost use Rattle.std.specs.Prelude.{option_map};
     ghost use Rattle.udsnorm.specs.Hints.{exchanged_options};
 
-    ghost text = { λ options. exchanged_options options.0 options.1 (option_map (λ t. t.now) options.2) };
+    ghost text = { λ options. exchanged_options options.tester options.unit options.functional (option_map (λ t. t.now) options.name) };
 
     fn say<S: TextSink>(self, out: &mut S) {
-        let ExchangedOptions(tester, unit, name) = self;
+        let ExchangedOptions {
+            tester,
+            unit,
+            functional,
+            name,
+        } = self;
         say(
             out,
             (
@@ -192,9 +211,26 @@ impl<'a> Part for ExchangedOptions<'a> {
                 Identifier(unit),
                 " --unit ",
                 Identifier(tester),
+                FunctionalOption(functional),
                 Behind(name),
             ),
         );
+    }
+}
+
+/// The option of the identifier of functional requests, where there is one.
+#[derive(Clone, Copy)]
+struct FunctionalOption(Option<Id>);
+
+impl Part for FunctionalOption {
+    ghost use Rattle.udsnorm.specs.Hints.{functional_option};
+
+    ghost text = { λ option. functional_option option.0 };
+
+    fn say<S: TextSink>(self, out: &mut S) {
+        if let Some(functional) = self.0 {
+            say(out, (" --functional ", Identifier(functional)));
+        }
     }
 }
 

@@ -4,7 +4,7 @@ ghost use Rattle.std.specs.Prelude.{◌≡◌, option_map};
 ghost use Rattle.clap.specs.Words.{found_of, rows_of, subcommand_rows_of};
 ghost use Rattle.udsnorm.specs.Under.{has_sides, under_in, under_value};
 
-use crate::commands::{PROFILE, TESTER, UNIT};
+use crate::commands::{FUNCTIONAL, PROFILE, TESTER, UNIT};
 use crate::values::text_of;
 use clap::ArgMatches;
 
@@ -13,7 +13,7 @@ use clap::ArgMatches;
 pub(crate) struct Under<'a> {
     /// The name of its file.
     pub file: &'a str,
-    /// Whether an identifier of tester or unit stands beside it.
+    /// Whether an identifier stands beside it, as none does beside units.
     pub has_sides: bool,
 }
 
@@ -33,9 +33,11 @@ pub(crate) fn under_of<'a>(matches: &ArgMatches<'a>) -> Option<Under<'a>>
     }
 }
 
-/// Whether the words have an identifier of tester or unit.
+/// Whether the words have an identifier of tester or unit, or of functional requests.
 fn has_sides(found: &ArgMatches<'_>) -> bool
     ensures { result ≡ has_sides (rows_of (found_of found.now)) }
 {
-    text_of(found, TESTER).is_some() || text_of(found, UNIT).is_some()
+    text_of(found, TESTER).is_some()
+        || text_of(found, UNIT).is_some()
+        || text_of(found, FUNCTIONAL).is_some()
 }
