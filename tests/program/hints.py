@@ -224,11 +224,11 @@ def pairs(cases, folder):
     """A log in which `find` finds no pair."""
     Path(folder, "request.log").write_bytes(FIRST.read_bytes())
     hint = "nothing in {} answers another identifier; find needs the frames of both sides, and looks at each identifier up to 1FFFFFFF"
-    for given in [["find", "request.log"], ["find", "--json", "request.log"]]:
-        hinted(cases, f"no pair for {shlex.join(given)}", given, folder, 0, hint.format("request.log"))
-    hinted(cases, "no pair in no log", ["find"], folder, 0, "standard input is empty")
-    for given in [["find", "mine.log"], ["find", "--json", "mine.log"]]:
-        hinted(cases, f"nothing of {shlex.join(given)}", given, folder, 0, None)
+    for style in [[], ["--json"], ["--toml"]]:
+        name = shlex.join(["find", *style])
+        hinted(cases, f"no pair for {name}", ["find", *style, "request.log"], folder, 0, hint.format("request.log"))
+        hinted(cases, f"no pair in no log for {name}", ["find", *style], folder, 0, "standard input is empty")
+        hinted(cases, f"nothing of {name}", ["find", *style, "mine.log"], folder, 0, None)
 
 
 def foreign(cases, folder):

@@ -1,5 +1,7 @@
 -- What is known of a log for a hint, by what a run over it came to.
-use Rattle.std.specs.Prelude.{◌≡◌, ◌⊎◌, ℕ, ◌==◌, ◌&&◌, ◌||◌, nat_lt, Bool, List, length, take, Option, Some, None, Result, Ok, Err, if◌then◌else◌}
+use Rattle.std.specs.Prelude.{◌≡◌, ◌⊎◌, ℕ, ◌==◌, ◌&&◌, ◌||◌, nat_lt, Bool, List, [], length, take, Option, Some, None, Result, Ok, Err, if◌then◌else◌}
+use Rattle.trace_canon.specs.CreditLines.{credit_lines_text}
+use Rattle.trace_canon.specs.declared.credit_lines.CreditStyle.{CreditStyle}
 use Rattle.trace_log.specs.Settings.{Settings}
 use Rattle.trace_log.specs.declared.fault.CompareFault.{CompareFault}
 use Rattle.trace_log.specs.declared.fault.CompareFault.TheVariants.{Left, Right}
@@ -53,10 +55,14 @@ IsKnownByFault which settings given is_over Read known = (known ≡ knows which 
 IsKnownByFault which settings given is_over Write known = known ≡ None
 IsKnownByFault which settings given is_over Memory known = known ≡ None
 
--- it is known that the log has no pair, where the output took nothing, or that it is empty
-abbrev pub knows_no_pair : Summary → List ℕ → Option Known
-knows_no_pair summary taken =
-    if nat_lt 0 (length taken) then None else if summary.lines == 0 then knows First matter.Empty else knows First matter.NoPair
+-- the output took more than what is written in this style where nobody answered
+abbrev pub has_pair : CreditStyle → List ℕ → Bool
+has_pair style taken = nat_lt (length (credit_lines_text style [])) (length taken)
+
+-- it is known that the log has no pair, where the output took none, or that it is empty
+abbrev pub knows_no_pair : CreditStyle → Summary → List ℕ → Option Known
+knows_no_pair style summary taken =
+    if has_pair style taken then None else if summary.lines == 0 then knows First matter.Empty else knows First matter.NoPair
 
 -- it is known how many frames of an accepted log were dropped, where any was
 abbrev pub knows_dropped : ℕ → Option Known
@@ -90,7 +96,7 @@ knows_all_left_out summary =
 -- that it has no pair, where the job was to find some; and else what its counts tell, or that rules leave nothing of it, or
 -- how many frames were dropped.
 abbrev pub known_of_done : Job → Settings → Summary → List ℕ → Option Known
-known_of_done (job.Find style) settings summary taken = knows_no_pair summary taken
+known_of_done (job.Find style) settings summary taken = knows_no_pair style summary taken
 known_of_done other settings summary taken =
     or_else (known_by_counts First settings summary) (or_else (knows_all_left_out summary) (knows_dropped_for other summary.dropped))
 

@@ -1,11 +1,13 @@
 //! How a run of the program ended, and what is known of that for a hint.
 
-ghost use Rattle.std.specs.Prelude.{◌≡◌, ◌⊎◌, option_map};
+ghost use Rattle.std.specs.Prelude.{◌≡◌, ◌⊎◌, [], length, option_map};
+ghost use Rattle.trace_canon.specs.CreditLines.{credit_lines_text};
 ghost use Rattle.udsnorm.specs.Hints.{name_in};
 ghost use Rattle.udsnorm.specs.Known.{IsKnownBy, IsKnownByFault, IsKnownByTwo, known_by_counts, known_of_done, known_of_pair, knows, knows_all_left_out, knows_nothing_left, knows_dropped, knows_dropped_for, knows_no_pair, knows_refused, knows_unopened};
 ghost use Rattle.udsnorm.specs.declared.ended.Matter.TheVariants as matter;
 
 use crate::commands::Job;
+use crate::counting::Counted;
 use crate::job::{Plan, WordsFault};
 use crate::noticing::Noticing;
 use crate::opening::OpenFault;
@@ -13,7 +15,8 @@ use crate::pair_jobs::PairAnswer;
 use can_log::Id;
 use std::fs::OpenFile;
 use std::io::Read;
-use trace_io::{Source, Target};
+use trace_canon::CreditStyle;
+use trace_io::Source;
 use trace_log::{CompareFault, Config, Fault, Summary};
 use trace_report::{RefusalCause, cause_of};
 use trace_run::Glimpse;
@@ -119,7 +122,7 @@ pub(crate) fn unopened(which: Which, fault: OpenFault) -> Option<Known>
 }
 
 /// What is known of standard input, by what a job over it came to.
-pub(crate) fn known_of_input<I: Read, W: Target>(
+pub(crate) fn known_of_input<I: Read, W: Counted>(
     job: Job,
     config: &Config,
     outcome: Result<Summary, Fault>,
@@ -135,7 +138,7 @@ pub(crate) fn known_of_input<I: Read, W: Target>(
 }
 
 /// What is known of the log of a file, by what a job over it came to.
-pub(crate) fn known_of_file<F: OpenFile + Read + Drop, W: Target>(
+pub(crate) fn known_of_file<F: OpenFile + Read + Drop, W: Counted>(
     job: Job,
     config: &Config,
     outcome: Result<Summary, Fault>,
@@ -151,11 +154,11 @@ pub(crate) fn known_of_file<F: OpenFile + Read + Drop, W: Target>(
 }
 
 /// What is known of a log that was accepted.
-fn known_of_done<W: Target>(job: Job, config: &Config, summary: &Summary, out: &W) -> Option<Known>
+fn known_of_done<W: Counted>(job: Job, config: &Config, summary: &Summary, out: &W) -> Option<Known>
     ensures { result ≡ known_of_done job config.now summary.now (W.taken out.now) }
 {
     match job {
-        Job::Find(_) => known_of_pairs(summary, out),
+        Job::Find(style) => known_of_pairs(style, summary, out),
         _ => match known_by_counts(Which::First, config, summary) {
             Some(known) => Some(known),
             None => match known_of_left_out(summary) {
@@ -234,17 +237,27 @@ fn known_of_dropped(count: u64) -> Option<Known>
     }
 }
 
-/// What is known of a log in which pairs were to be found: that it is empty, or that there is none, where nothing was
+/// What is known of a log in which pairs were to be found: that it is empty, or that there is none, where none was
 /// written.
-fn known_of_pairs<W: Target>(summary: &Summary, out: &W) -> Option<Known>
-    ensures { result ≡ knows_no_pair summary.now (W.taken out.now) }
+fn known_of_pairs<W: Counted>(style: CreditStyle, summary: &Summary, out: &W) -> Option<Known>
+    ensures { result ≡ knows_no_pair style summary.now (W.taken out.now) }
 {
-    if out.has_taken() {
+    if out.took_more_than(length_of_none(style)) {
         None
     } else if summary.lines == 0 {
         knows(Which::First, Matter::Empty)
     } else {
         knows(Which::First, Matter::NoPair)
+    }
+}
+
+/// How many bytes are written where nobody answered: of a profile the comment that says so.
+fn length_of_none(style: CreditStyle) -> u32
+    ensures { result ≡ length (credit_lines_text style []) }
+{
+    match style {
+        CreditStyle::Lines(_) => 0,
+        CreditStyle::Profile => 18,
     }
 }
 

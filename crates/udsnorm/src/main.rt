@@ -34,6 +34,7 @@ ghost use Rattle.udsnorm.specs.declared.profiled.SeenProfile.{SeenProfile};
 mod advice;
 mod command;
 mod commands;
+mod counting;
 mod ended;
 mod fault_lines;
 mod hint_lines;
@@ -55,6 +56,7 @@ mod values;
 mod words;
 
 use crate::commands::Job;
+use crate::counting::{Counted, Counting};
 use crate::ended::{End, Run, Which, known_of_file, known_of_files, known_of_input, unopened};
 use crate::hints::{asks_for_hints, give_hint, tell_awaited};
 use crate::job::{Plan, WordsFault};
@@ -90,7 +92,7 @@ fn main(rt: HostRuntime) -> ExitCode {
         given_words(&rt),
         terminals,
         &mut Noticing::new(stdin),
-        &mut Writing::new(io::writer(&rt)),
+        &mut Counting::new(io::writer(&rt)),
         &mut Writing::new(io::writer(&stderr)),
     )
 }
@@ -105,7 +107,7 @@ struct Terminals {
 /// Does what the words ask for, or tells why there are none, and answers how the process ends. Nothing is written beside:
 /// only where input and error output are terminals, that the input is read; and where the error output is one, or the
 /// words ask for hints, the hint of the run.
-fn answer<R: AllocGlobal + Files + Opener, I: Read, W: Target, E: Target>(
+fn answer<R: AllocGlobal + Files + Opener, I: Read, W: Counted, E: Target>(
     rt: &R,
     words: Result<Vec<String>, WordsFault>,
     terminals: Terminals,
@@ -124,7 +126,7 @@ fn answer<R: AllocGlobal + Files + Opener, I: Read, W: Target, E: Target>(
 }
 
 /// Does what the words ask for, or tells why there are none. Answers the exit status.
-fn serve_or_tell<R: AllocGlobal + Files + Opener, I: Read, W: Target, E: Target>(
+fn serve_or_tell<R: AllocGlobal + Files + Opener, I: Read, W: Counted, E: Target>(
     rt: &R,
     words: Result<Vec<String>, WordsFault>,
     terminals: Terminals,
@@ -146,7 +148,7 @@ fn serve_or_tell<R: AllocGlobal + Files + Opener, I: Read, W: Target, E: Target>
 }
 
 /// Does what the words ask for, with what is told beside, and answers the exit status.
-fn serve<R: AllocGlobal + Files + Opener, I: Read, W: Target, E: Target>(
+fn serve<R: AllocGlobal + Files + Opener, I: Read, W: Counted, E: Target>(
     rt: &R,
     words: &[String],
     terminals: Terminals,
@@ -219,7 +221,7 @@ fn given_words<R: AllocGlobal + Env>(rt: &R) -> Result<Vec<String>, WordsFault> 
 }
 
 /// Does what words ask for, over the input where they name no log. Answers how it ended.
-fn run_words<R: AllocGlobal + Opener, I: Read, W: Target, E: Target>(
+fn run_words<R: AllocGlobal + Opener, I: Read, W: Counted, E: Target>(
     rt: &R,
     asked: &Result<Plan, WordsFault>,
     input: &mut Noticing<I>,
@@ -253,7 +255,7 @@ fn run_words<R: AllocGlobal + Opener, I: Read, W: Target, E: Target>(
 }
 
 /// Does what is planned, over the files that are named or the input. Answers how it ended.
-fn carry_out<R: AllocGlobal + Opener, I: Read, W: Target, E: Target>(
+fn carry_out<R: AllocGlobal + Opener, I: Read, W: Counted, E: Target>(
     rt: &R,
     plan: &Plan,
     input: &mut Noticing<I>,
@@ -304,7 +306,7 @@ fn carry_out<R: AllocGlobal + Opener, I: Read, W: Target, E: Target>(
 }
 
 /// Does a job over the log of a file.
-fn run_file<R: AllocGlobal + Opener, W: Target, E: Target>(
+fn run_file<R: AllocGlobal + Opener, W: Counted, E: Target>(
     rt: &R,
     job: Job,
     strict: bool,
