@@ -29,7 +29,7 @@ use Rattle.trace_canon.specs.declared.comparer.Compared.{Compared}
 use Rattle.trace_log.specs.declared.fault.CompareFault.{CompareFault}
 use Rattle.trace_log.specs.declared.fault.Fault.{Fault}
 use Rattle.trace_log.specs.declared.fault.Fault.TheVariants.{Memory, Read, Write}
-use Rattle.trace_canon.specs.declared.credit_lines.CreditStyle.{CreditStyle}
+use Rattle.trace_text.specs.declared.credit_style.CreditStyle.{CreditStyle}
 use Rattle.trace_text.specs.declared.notation.Notation.{Notation}
 use Rattle.trace_log.specs.declared.summary.Summary.{Summary}
 use Rattle.isotp_receive.specs.Trace.{Entry}

@@ -5,9 +5,9 @@ use Rattle.std.specs.Str.Parse.{digits_value, without_leading_plus}
 use Rattle.clap.specs.ValueTests.{is_unsigned_in}
 use Rattle.clap.specs.Walk.{Row, Text, first_of, one_of}
 use Rattle.can_log.specs.declared.frame.Id.{Id}
-use Rattle.trace_canon.specs.declared.comparison_text.ComparisonStyle.{ComparisonStyle}
-use Rattle.trace_canon.specs.declared.credit_lines.CreditStyle.{CreditStyle}
-use Rattle.trace_canon.specs.declared.credit_lines.CreditStyle.TheVariants.{Lines, Profile}
+use Rattle.trace_text.specs.declared.comparison_style.ComparisonStyle.{ComparisonStyle}
+use Rattle.trace_text.specs.declared.credit_style.CreditStyle.{CreditStyle}
+use Rattle.trace_text.specs.declared.credit_style.CreditStyle.TheVariants.{Lines, Profile}
 use Rattle.trace_text.specs.declared.item_style.ItemStyle.{ItemStyle}
 use Rattle.trace_text.specs.declared.item_style.Numbering.{Numbering}
 use Rattle.trace_text.specs.declared.item_style.Numbering.TheVariants.{Shown, Hidden}
