@@ -196,6 +196,7 @@ pub(crate) const UNIT: &str = "unit";
 
 pub(crate) const FUNCTIONAL: &str = "functional";
 
+/// That of the option which names the file of a profile.
 pub const PROFILE: &str = "profile";
 
 pub(crate) const ONLY: &str = "only";
@@ -214,12 +215,16 @@ pub(crate) const SHOW: &str = "show";
 
 pub(crate) const HINTS: &str = "hints";
 
+/// That of the log, where one may be named, and of the left one beside a second.
 pub const LOG: &str = "LOG";
 
+/// That of the second log, where one may be named.
 pub const OTHER: &str = "OTHER";
 
+/// That of the left log, where two have to be named.
 pub const LEFT: &str = "A";
 
+/// That of the right one.
 pub const RIGHT: &str = "B";
 
 /// The identifiers that are meant where none are given.
