@@ -66,7 +66,7 @@ module _ (rules : List RuleValue) (each : AllByRecursion IsRule rules) (n : ℕ)
       let told = mask_of rules answer in
       let repeats : repeats_others (take n request) (mask_of rules (take n request)) answer told
       ≡ repeats_others request (mask_of rules request) answer told =
-      repeats-other (take n request) answer _ told (ap (λ one. one == 0x22) service ∙ other)
+      repeats-other (take n request) answer (mask_of rules (take n request)) told (ap (λ one. one == 0x22) service ∙ other)
       ∙ (λ i. differ_within (has_sub_function (service i)) (take n request) (mask-front rules n request each long i) answer told (count i))
       ∙ differ-front n (has_sub_function (sid request)) request (mask_of rules request) answer told (repeated_count request answer) within
       ∙ sym (repeats-other request answer (mask_of rules request) told other) in
