@@ -10,6 +10,9 @@ OTHERS = {0x24: [1, 2], 0x2E: [1, 2], 0x2F: [1, 2], 0x36: [1], 0x38: [1]}
 # The sub-functions of RoutineControl that tell a routine.
 OF_ROUTINES = {1, 2, 3}
 
+# So many bytes of a request are kept until its answer comes, where a log is told as it comes.
+MOST_ASKED = 4095
+
 
 def is_other(request, answer):
     """Whether a positive answer is other than was asked: both have all the bytes that are repeated, and these differ."""
@@ -59,3 +62,13 @@ def bytes_told(text):
 def echo_told(request, answer):
     """The member of an object for a request and its answer, both as a line tells them."""
     return {"echo": False} if is_other(bytes_told(request), bytes_told(answer)) else {}
+
+
+def asked_of(request):
+    """What is kept of a request: of one for data identifiers that has more bytes nothing, for an answer may be to any of them."""
+    return [] if request[0] == 0x22 and len(request) > MOST_ASKED else request[:MOST_ASKED]
+
+
+def echo_told_as_it_comes(request, answer):
+    """The same by what is kept of the request."""
+    return {"echo": False} if is_other(asked_of(bytes_told(request)), bytes_told(answer)) else {}

@@ -71,12 +71,13 @@ OF_LIBRARIES = {
     "uds_find: proofs": ["uds_message: proofs"],
     "uds_names: proofs": ["uds_message: proofs"],
     "uds_echo: proofs": ["uds_message: proofs", "uds_rules: proofs"],
+    "asked_request: proofs": ["uds_echo: proofs"],
     "trace_log: proofs": ["uds_exchange: proofs", "uds_rules: proofs"],
     "trace_run: proofs": ["trace_log: proofs"],
     "trace_text: proofs": ["trace_log: proofs", "uds_echo: proofs"],
     "asked_profile: proofs": ["profile: proofs", "trace_text: proofs"],
     "command_line: proofs": ["asked_profile: proofs"],
-    "trace_canon: proofs": ["trace_run: proofs", "trace_text: proofs", "uds_find: proofs"],
+    "trace_canon: proofs": ["trace_run: proofs", "trace_text: proofs", "uds_find: proofs", "asked_request: proofs"],
     "shown_bytes: proofs": ["trace_text: proofs", "uds_names: proofs"],
     "pair_words: proofs": ["shown_rows: proofs", "shown_bytes: proofs"],
     "trace_report: proofs": ["trace_canon: proofs", "shown_bytes: proofs"],
@@ -90,7 +91,7 @@ OF_PROGRAM |= {f"tests/{test}.py": ["udsnorm: make build"] for test in QUICK_TES
 
 # The crates beside the program, each with those below it that are checked.
 UP_TO_LOG = ["uds_message", "uds_rules", "uds_exchange", "trace_log"]
-UP_TO_CANON = [*UP_TO_LOG, "uds_find", "uds_echo", "trace_run", "trace_text", "trace_canon"]
+UP_TO_CANON = [*UP_TO_LOG, "uds_find", "uds_echo", "asked_request", "trace_run", "trace_text", "trace_canon"]
 PAGES = [*UP_TO_CANON, "uds_names", "uds_difference", "shown_rows", "shown_bytes", "pair_words", "trace_report", "trace_pair"]
 LIBRARIES = [*PAGES, "trace_difference", "profile", "asked_profile"]
 TEXTS = [*UP_TO_CANON, "uds_difference", "shown_rows", "trace_difference", "tried_sessions"]
@@ -101,7 +102,7 @@ APART = {
     "layer_bench": ["uds_message", "uds_exchange"],
     "session_bench": PAGES,
     "tried_sessions": UP_TO_LOG,
-    "acceptance": ["uds_message", "uds_names", "uds_rules", "uds_echo", "profile", "uds_exchange", "uds_difference", "uds_find"],
+    "acceptance": ["uds_message", "uds_names", "uds_rules", "uds_echo", "asked_request", "profile", "uds_exchange", "uds_difference", "uds_find"],
     "call_acceptance": [*TEXTS, "profile", "asked_profile"],
     "page_acceptance": [*PAGES, "tried_sessions"],
     "refused_memory": TEXTS,

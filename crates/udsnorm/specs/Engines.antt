@@ -7,7 +7,7 @@ use Rattle.trace_canon.specs.ComparisonText.{comparison_text}
 use Rattle.trace_log.specs.Devices.{AgreesWith, bytes_given, ReadFrom, WroteTo}
 use Rattle.trace_canon.specs.ExplainScript.{explain_script}
 use Rattle.trace_canon.specs.Finding.{Finds, RanToFind}
-use Rattle.trace_canon.specs.MemoryNeeded.{CompletesKept, NeedsMemoryToCollect, NeedsMemoryToFind, NeedsMemoryToOrder, messages_needs}
+use Rattle.trace_canon.specs.MemoryNeeded.{CompletesKept, NeedsMemoryToCollect, NeedsMemoryToFind, NeedsMemoryToOrder}
 use Rattle.trace_text.specs.ItemLines.{list_text}
 use Rattle.trace_canon.specs.ItemText.{RanOverItems, TextOfItems, WritesItems}
 use Rattle.trace_canon.specs.MessagesScript.{messages_script}
@@ -138,7 +138,7 @@ engine_of job.Normalise name seen = normalises
 engine_of (job.List style) name seen = writes (λ rules. list_text rules style)
 engine_of (job.Watch style) name seen = runs (watch_script style) CompletesKept
 engine_of (job.Explain notation) name seen = explains notation
-engine_of (job.Messages notation) name seen = runs (messages_script notation) (messages_needs notation)
+engine_of (job.Messages notation) name seen = runs (messages_script notation) (λ limit rules. needs_none)
 engine_of job.Report name seen =
     runs_in_style (λ style settings limit. report_script (page_title style name settings) limit settings.rules)
     (λ style settings limit. refused_text (page_title style name settings) limit settings.rules seen)
