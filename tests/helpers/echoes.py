@@ -75,8 +75,8 @@ def is_other_on_page(request, answer):
 def words_on_page(request, answer):
     """What a row says of such an answer: what it answers, and what was asked, of data identifiers the first bytes."""
     if request[0] == IDENTIFIERS:
-        more = len(request) - MOST_SHOWN
-        behind = f" and {more} byte{'s' * (more > 1)} more" if more > 0 else ""
+        more, at_least = len(request) - MOST_SHOWN, "at least " if getattr(request, "is_cut", False) else ""
+        behind = f" and {at_least}{more} byte{'s' * (more > 1)} more" if more > 0 else ""
         return spelled(answer[:3]), spelled(request[:MOST_SHOWN]) + behind
     count = max(places(cells_of(request), cells_of(answer))) + 1
     return spelled(answer[:count]), spelled(request[:count])

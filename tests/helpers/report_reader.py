@@ -69,7 +69,7 @@ NAMES = r"(?P<names>(?: <i>\([A-Za-z][^<]*\)</i>)*)"
 DATA = rf"<code>(?P<shown>{BYTES})</code>(?: <samp>(?P<letters>[^<]+)</samp>|{FOLDED}| <i>(?P<hidden>\d+) bytes more, not shown</i>)?{NAMES}{NOTE}"
 # A message of the tester that went to all units.
 TO_ALL, BRIEF_TO_ALL = "(?:<i>(?P<functional>functional)</i> )?", "(?:(?P<functional>functional) )?"
-MORE = r"(?: and \d+ bytes? more)?"
+MORE = r"(?: and (?:at least )?\d+ bytes? more)?"
 BRIEF_DATA = rf"(?P<shown>{BYTES})(?: and (?P<hidden>(?:at least )?\d+) (?:(?<= 1 )byte|(?<! 1 )bytes) more)?"
 
 # Of each kind of row how it looks, how its arrow ends, and what it says. `words` are no facts.
