@@ -27,6 +27,7 @@ mod Beside
 mod OwnItems
 mod FirstChanges
 mod Agreeing
+pub mod LongerWalk
 mod ChartRequests
 mod ChartItems
 mod DifferingOutcomes
