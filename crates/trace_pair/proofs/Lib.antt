@@ -28,6 +28,7 @@ mod OwnItems
 mod FirstChanges
 mod Agreeing
 pub mod LongerWalk
+mod LongerLinks
 mod ChartRequests
 mod ChartItems
 mod DifferingOutcomes

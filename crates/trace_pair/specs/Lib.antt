@@ -31,4 +31,5 @@ pub mod ChartLaws
 pub mod OutcomeLaws
 pub mod TableLaws
 pub mod LinkLaws
+pub mod LongerLaws
 pub mod proving

@@ -35,7 +35,7 @@
 //! | the table: which rows are seen, and which are folded | `standing`, `widths`, `table_parts`, `folds`, `item_tables` | `RowStretches`, `Widths`, `ItemTables` |
 //! | the page, and that of a log that is refused | `page` | `Page` |
 //! | the page of two logs in memory, with the counts | [`in_memory`] | `InMemory` |
-//! | what holds of each page | [`laws`] | `Links`; `Laws` of all of it, and those of its parts: `RowLaws`, `LossLaws`, `ChartLaws`, `OutcomeLaws`, `TableLaws`, `LinkLaws` |
+//! | what holds of each page | [`laws`] | `Links`; `Laws` of all of it, and those of its parts: `RowLaws`, `LossLaws`, `ChartLaws`, `OutcomeLaws`, `TableLaws`, `LinkLaws`, `LongerLaws` |
 #![tactic(auto)]
 
 mod aligned;
