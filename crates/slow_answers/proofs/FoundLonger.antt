@@ -65,8 +65,8 @@ slowest_behind first rest later is found = by_test (nat_lt first.micros later.mi
         before = first ∷ found.before;
         behind = found.behind;
         stands = ap (λ (l : List AnswerBeside). first ∷ l) found.stands;
-        first = (is_less first.micros later.micros less, found.first);
-        slowest = found.slowest;
+        earlier = (is_less first.micros later.micros less, found.earlier);
+        later = found.later;
       },
     )
     by_test false less = (
@@ -76,9 +76,9 @@ slowest_behind first rest later is found = by_test (nat_lt first.micros later.mi
         before = [];
         behind = rest;
         stands = refl;
-        first = tt;
-        slowest = subst (λ (l : List AnswerBeside). AllByRecursion (λ (other : AnswerBeside). other.micros ≤ first.micros) l) (sym found.stands)
-            (no_longer_than_first first.micros found.before found.behind later (is_no_less first.micros later.micros less) found.first found.slowest);
+        earlier = tt;
+        later = subst (λ (l : List AnswerBeside). AllByRecursion (λ (other : AnswerBeside). other.micros ≤ first.micros) l) (sym found.stands)
+            (no_longer_than_first first.micros found.before found.behind later (is_no_less first.micros later.micros less) found.earlier found.later);
       },
     )
 
@@ -86,9 +86,9 @@ pub slowest_is_one_of_them : SlowestIsOneOfThem
 slowest_is_one_of_them [] = inl (refl, refl)
 slowest_is_one_of_them (first ∷ rest) = inr (by (slowest_is_one_of_them rest))
   where
-    by : (rest ≡ [] × slowest_one rest ≡ None) ⊎ ((here : AnswerBeside) × (slowest_one rest ≡ Some here) × IsSlowestOf rest here)
+    by : ((rest ≡ []) × (slowest_one rest ≡ None)) ⊎ ((here : AnswerBeside) × (slowest_one rest ≡ Some here) × IsSlowestOf rest here)
         → (here : AnswerBeside) × (slowest_one (first ∷ rest) ≡ Some here) × IsSlowestOf (first ∷ rest) here
-    by (inl (none, alone)) = (first, rw alone refl, record { before = []; behind = rest; stands = refl; first = tt; slowest = rw none tt })
+    by (inl (none, alone)) = (first, rw alone refl, record { before = []; behind = rest; stands = refl; earlier = tt; later = rw none tt })
     by (inr (later, is, found)) = slowest_behind first rest later is found
 
 -- ---- one after another
@@ -102,7 +102,7 @@ slowest_behind_so_far (Some slowest) answers = Some (slower_of slowest (slowest_
 slowest_moves : (so_far : Option AnswerBeside) (answer : AnswerBeside) (rest : List AnswerBeside)
     → slowest_behind_so_far (Some (slowest_with so_far answer)) rest ≡ slowest_behind_so_far so_far (answer ∷ rest)
 slowest_moves None answer rest = refl
-slowest_moves (Some slowest) answer rest = ap Some (by (slowest_one rest))
+slowest_moves (Some slowest) answer rest = ap (λ (it : AnswerBeside). Some it) (by (slowest_one rest))
   where
     by : (later : Option AnswerBeside) → slower_of (if nat_lt slowest.micros answer.micros then answer else slowest) later ≡ slower_of slowest (Some (slower_of answer later))
     by None = refl
@@ -117,16 +117,19 @@ slowest_moves (Some slowest) answer rest = ap Some (by (slowest_one rest))
         by_tests false one false other true both = absurd (omega (arith, is_no_less slowest.micros answer.micros one, is_no_less answer.micros later.micros other, is_less slowest.micros later.micros both))
         by_tests false one false other false both = rw (one, other, both, one) refl
 
+slowest_alone : (so_far : Option AnswerBeside) → so_far ≡ slowest_behind_so_far so_far []
+slowest_alone None = refl
+slowest_alone (Some slowest) = refl
+
 -- what is known of the answers so far and of these behind them
 abbrev of_both : LongerAnswers → List AnswerBeside → LongerAnswers
 of_both found answers = record { count = found.count + length (longer_ones answers); slowest = slowest_behind_so_far found.slowest (longer_ones answers) }
 
 found_so_far : (found : LongerAnswers) (answers : List AnswerBeside) → longer_behind found answers ≡ of_both found answers
-found_so_far found [] = of_none found.slowest refl
+found_so_far found [] = (λ i. record { count = none i; slowest = slowest_alone found.slowest i })
   where
-    of_none : (slowest : Option AnswerBeside) → found.slowest ≡ slowest → found ≡ record { count = found.count + 0; slowest = slowest_behind_so_far found.slowest [] }
-    of_none None is = rw is refl
-    of_none (Some it) is = rw is refl
+    none : found.count ≡ found.count + 0
+    none = omega arith
 found_so_far found (answer ∷ rest) = by_test (is_longer answer) refl
   where
     by_test : (test : Bool) → is_longer answer ≡ test → longer_behind found (answer ∷ rest) ≡ of_both found (answer ∷ rest)
@@ -137,7 +140,7 @@ found_so_far found (answer ∷ rest) = by_test (is_longer answer) refl
 
         one_more : of_both (record { count = found.count + 1; slowest = Some (slowest_with found.slowest answer) }) rest
             ≡ record { count = found.count + length (answer ∷ longer_ones rest); slowest = slowest_behind_so_far found.slowest (answer ∷ longer_ones rest) }
-        one_more i = record { count = counted i; slowest = slowest_moves found.slowest answer (longer_ones rest) i }
+        one_more = (λ i. record { count = counted i; slowest = slowest_moves found.slowest answer (longer_ones rest) i })
     by_test false is = rw is (found_so_far found rest)
 
 pub longer_are_found_one_by_one : LongerAreFoundOneByOne

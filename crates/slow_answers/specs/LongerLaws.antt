@@ -13,13 +13,13 @@ pub record IsSlowestOf (answers : List AnswerBeside) (here : AnswerBeside) : Typ
   pub before : List AnswerBeside
   pub behind : List AnswerBeside
   pub stands : answers ≡ before ++ here ∷ behind
-  pub first : AllByRecursion (λ (other : AnswerBeside). other.micros < here.micros) before
-  pub slowest : AllByRecursion (λ (other : AnswerBeside). other.micros ≤ here.micros) behind
+  pub earlier : AllByRecursion (λ (other : AnswerBeside). other.micros < here.micros) before
+  pub later : AllByRecursion (λ (other : AnswerBeside). other.micros ≤ here.micros) behind
 
 -- where there are answers, one is told as the slowest: it is one of them, none took longer, and of equal ones it is the first
 abbrev pub SlowestIsOneOfThem : Type 0
 SlowestIsOneOfThem = (answers : List AnswerBeside)
-    → (answers ≡ [] × slowest_one answers ≡ None) ⊎ ((here : AnswerBeside) × (slowest_one answers ≡ Some here) × IsSlowestOf answers here)
+    → ((answers ≡ []) × (slowest_one answers ≡ None)) ⊎ ((here : AnswerBeside) × (slowest_one answers ≡ Some here) × IsSlowestOf answers here)
 
 -- what is known of answers is what is found of them one after another
 abbrev pub LongerAreFoundOneByOne : Type 0

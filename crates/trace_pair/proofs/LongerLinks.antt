@@ -172,7 +172,7 @@ longer_links_have_targets log left right rows slowest is = (by (slowest_is_one_o
     each : AllByRecursion (HasItsRow left right (placed rows)) longer
     each = each-has log left right (length (changes rows)) 0 Same 0 0 0 rows
 
-    by : (longer ≡ [] × slowest_one longer ≡ None) ⊎ ((here : AnswerBeside) × (slowest_one longer ≡ Some here) × IsSlowestOf longer here)
+    by : ((longer ≡ []) × (slowest_one longer ≡ None)) ⊎ ((here : AnswerBeside) × (slowest_one longer ≡ Some here) × IsSlowestOf longer here)
         → HasItsRow left right (table_rows rows) slowest
     by (inl (none, alone)) = absurd (cc (alone, is))
     by (inr (here, found, stands)) =
