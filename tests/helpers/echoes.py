@@ -10,6 +10,9 @@ OTHERS = {0x24: [1, 2], 0x2E: [1, 2], 0x2F: [1, 2], 0x36: [1], 0x38: [1]}
 # The sub-functions of RoutineControl that tell a routine.
 OF_ROUTINES = {1, 2, 3}
 
+# The service ReadDataByIdentifier.
+IDENTIFIERS = 0x22
+
 # So many bytes of a request are kept until its answer comes, where a log is told as it comes.
 MOST_ASKED = 4095
 
@@ -69,7 +72,7 @@ def echo_told(request, answer):
 
 def asked_of(request):
     """What is kept of a request: of one for data identifiers that has more bytes nothing, for an answer may be to any of them."""
-    return [] if request[0] == 0x22 and len(request) > MOST_ASKED else request[:MOST_ASKED]
+    return [] if request[0] == IDENTIFIERS and len(request) > MOST_ASKED else request[:MOST_ASKED]
 
 
 def echo_told_as_it_comes(request, answer):
@@ -84,7 +87,7 @@ def is_other_on_page(request, answer):
 
 def words_on_page(request, answer):
     """What a row says of such an answer: what it answers, and what was asked, of data identifiers the first bytes."""
-    if request[0] == 0x22:
+    if request[0] == IDENTIFIERS:
         more, at_least = len(request) - MOST_SHOWN, "at least " if getattr(request, "is_cut", False) else ""
         behind = f" and {at_least}{more} byte{'s' * (more > 1)} more" if more > 0 else ""
         return spelled(answer[:3]), spelled(request[:MOST_SHOWN]) + behind

@@ -353,6 +353,58 @@ fn two_sessions_have_their_page(rt: HostRuntime) -> Result<(), Fail> {
     Ok(())
 }
 
+/// Three exchanges.
+const QUICK: &str = "\
+(0.000000) can0 7E0#0322F190
+(0.012000) can0 7E8#0462F19041
+(1.000000) can0 7E0#0322F191
+(1.031000) can0 7E8#0462F19141
+(2.000000) can0 7E0#0322F192
+(2.100000) can0 7E8#0462F19241
+";
+
+/// The same: the second answer took twenty times as long, the third one exactly twice.
+const SLOW: &str = "\
+(0.000000) can0 7E0#0322F190
+(0.012000) can0 7E8#0462F19041
+(1.000000) can0 7E0#0322F191
+(1.640000) can0 7E8#0462F19141
+(2.000000) can0 7E0#0322F192
+(2.200000) can0 7E8#0462F19241
+";
+
+#[test]
+fn answers_that_took_much_longer_are_told(rt: HostRuntime) -> Result<(), Fail> {
+    let alloc = rt.alloc();
+    let page = page_of_two(alloc, QUICK, SLOW)?;
+    assert_page(
+        &rt,
+        &page,
+        &[
+            "The two sessions are the same</h2>",
+            "<p><b>1</b> answer took more than twice as long in B as in A, and at least 50&#160;ms longer: <a href=\"#t2\">A&#160;2, B&#160;2</a> ",
+            "<code>22 F1 91</code>, 31.000&#160;ms in A, <b>640.000&#160;ms</b> in B.</p>\n<table",
+            "<th scope=\"row\">1<td>1<td><div",
+            "<th scope=\"row\">2<td>2<td><span id=\"t2\"></span><div",
+            "<th scope=\"row\">3<td>3<td><div",
+            "Times are compared in the verdict alone",
+        ],
+    );
+    let page = page_of_two(alloc, SLOW, QUICK)?;
+    assert_page(
+        &rt,
+        &page,
+        &[
+            "<p><b>1</b> answer took more than twice as long in A as in B, and at least 50&#160;ms longer: <a href=\"#t2\">A&#160;2, B&#160;2</a> ",
+            "<code>22 F1 91</code>, <b>640.000&#160;ms</b> in A, 31.000&#160;ms in B.</p>\n<table",
+        ],
+    );
+    let page = page_of_two(alloc, SLOW, SLOW)?;
+    assert_page(&rt, &page, &["Times are not compared"]);
+    assert!(rt; !page.contains("answer took") && !page.contains("id=\"t2\""));
+    Ok(())
+}
+
 #[test]
 fn sessions_in_memory_have_their_pages(rt: HostRuntime) -> Result<(), Fail> {
     let alloc = rt.alloc();

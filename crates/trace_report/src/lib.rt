@@ -90,7 +90,7 @@ mod verdict_front;
 pub use blocks::begins_exchange;
 pub use cause::{CauseLine, RefusalCause, RefusalCauseText, cause_of};
 pub use counts::Counts;
-pub use durations::Seconds;
+pub use durations::{Duration, Seconds};
 pub use front::{DocumentFront, Identifiers, Shapes};
 pub use help::{HelpHeading, Legend, Limits, Tail};
 pub use items::{PlacedItem, RowMessage};
