@@ -1,5 +1,5 @@
 -- What is kept of a request tells of an answer what the request does.
-use Rattle.std.proofs.Common.{◌≡◌, ℕ, ◌<◌, ◌≤◌, Bool, true, false, List, [], length, take, Option, refl, ap, ap₂, sym, ◌∙◌, arith}
+use Rattle.std.proofs.Common.{◌≡◌, ℕ, ◌<◌, ◌≤◌, Bool, true, false, List, [], length, take, Option, refl, ap, sym, ◌∙◌, arith}
 use Rattle.std.specs.Prelude.{◌==◌, ◌&&◌, nat_lt, if◌then◌else◌}
 use Rattle.std.specs.List.{AllByRecursion}
 use Rattle.std.proofs.Math.Bool.{and-false}
@@ -10,9 +10,9 @@ use Rattle.uds_message.specs.Tables.{has_sub_function}
 use Rattle.uds_rules.specs.Legal.{IsRule}
 use Rattle.uds_rules.specs.Mask.{MaskValue}
 use Rattle.uds_rules.specs.Rule.{RuleValue, mask_of}
-use Rattle.uds_echo.specs.Repeated.{count_of_service, is_longer, repeated_count, repeats_byte, repeats_identifier, sub_function_of, tells_routine}
+use Rattle.uds_echo.specs.Repeated.{is_longer, repeated_count, repeats_byte, repeats_identifier, sub_function_of, tells_routine}
 use Rattle.uds_echo.specs.Echo.{answers_other, differ_within, repeats_others}
-use Rattle.asked_request.specs.Asked.{asked_of, asks_for_more, most_asked}
+use Rattle.asked_request.specs.Asked.{asks_for_more, most_asked}
 use Rattle.asked_request.specs.Laws.{KeptIsEnough, NothingIsToldOfMore}
 use Rattle.asked_request.proofs.Fronts.{count-front, differ-front, longer-front, mask-front, sid-front}
 
