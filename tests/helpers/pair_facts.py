@@ -155,7 +155,13 @@ def chart_of(frames, rows, item, count, others):
 
 def all_rows(frames, rules):
     """The rows of a log under rules, with those at its end."""
-    return [*report_facts.rows_of(frames, rules), *report_facts.end_rows(frames, rules)] if frames else []
+    rows = [*report_facts.rows_of(frames, rules), *report_facts.end_rows(frames, rules)] if frames else []
+    return list(map(without_echo, rows))
+
+
+def without_echo(row):
+    """A row as the page of two logs has it, which tells of no answer that it is other than was asked."""
+    return row._replace(kind="positive") if isinstance(row, report_facts.Message) and row.kind == report_facts.OTHER else row
 
 
 def numbers_of(rows):

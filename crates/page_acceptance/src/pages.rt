@@ -188,6 +188,34 @@ fn requests_to_all_units_have_their_page(rt: HostRuntime) -> Result<(), Fail> {
     Ok(())
 }
 
+/// A session in which the unit answers another data identifier than was asked for, and then that one.
+const OTHER_ANSWER: &str = "\
+(0.000000) can0 7E0#0322F101
+(0.001000) can0 7E8#0462F10041
+(0.002000) can0 7E0#0322F190
+(0.003000) can0 7E8#0462F19041
+";
+
+#[test]
+fn answers_to_something_else_have_their_page(rt: HostRuntime) -> Result<(), Fail> {
+    let alloc = rt.alloc();
+    let (answer, writer) = reported(alloc, OTHER_ANSWER.as_bytes(), Vec::new(alloc))?;
+    answer?;
+    let page = page_in(writer)?;
+    assert_page(
+        &rt,
+        &page,
+        &[
+            "<b>positive</b> <em>answers 62 F1 00, asked was 22 F1 01</em> <code>62 F1 00 41</code>",
+            "<b>positive</b> <code>62 F1 90 41</code>",
+            "Not every answer is to what was asked.",
+            "other than asked <b>1</b>: <a href=\"#i1\">item 1</a>",
+            "<dt>other than asked</dt><dd>1</dd>",
+        ],
+    );
+    Ok(())
+}
+
 #[test]
 fn two_sessions_are_kept(rt: HostRuntime) -> Result<(), Fail> {
     let alloc = rt.alloc();
