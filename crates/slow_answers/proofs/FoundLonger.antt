@@ -1,23 +1,13 @@
 -- What is found of answers beside each other, one after another, is what is known of all of them; and which of them is the
 -- slowest.
-use Rattle.std.proofs.Common.{◌≡◌, ◌⊎◌, inl, inr, ℕ, ◌+◌, ◌-◌, ◌*◌, ◌<◌, ◌≤◌, Bool, true, false, List, [], ◌∷◌, ◌++◌, Option, Some, None, length, refl, ap, ap₂, subst, sym, ◌∙◌, arith}
-use Rattle.std.specs.Prelude.{◌&&◌, nat_le, nat_lt, if◌then◌else◌}
+use Rattle.std.proofs.Common.{◌≡◌, ◌⊎◌, inl, inr, ℕ, ◌+◌, ◌*◌, ◌<◌, ◌≤◌, Bool, true, false, List, [], ◌∷◌, ◌++◌, Option, Some, None, length, refl, ap, subst, sym, ◌∙◌, arith}
+use Rattle.std.specs.Prelude.{◌&&◌, nat_lt, if◌then◌else◌}
 use Rattle.std.specs.List.{AllByRecursion}
 use Rattle.std.proofs.lemmas.Bool.Decides.{nat_tests}
 use Rattle.slow_answers.specs.declared.longer.AnswerBeside.{AnswerBeside}
 use Rattle.slow_answers.specs.declared.longer.LongerAnswers.{LongerAnswers}
-use Rattle.slow_answers.specs.Longer.{is_longer, longer_answers, longer_behind, longer_ones, longer_with, much_longer, none_longer, slower_of, slowest_one, slowest_with, took_much_longer}
+use Rattle.slow_answers.specs.Longer.{is_longer, longer_behind, longer_ones, none_longer, slower_of, slowest_one, slowest_with}
 use Rattle.slow_answers.specs.LongerLaws.{IsSlowestOf, LongerAreFoundOneByOne, NeverLongerBothWays, SlowestIsOneOfThem}
-
--- more than twice as long, and at least so much longer, by how much longer it took
-pub much_longer_by : (micros other : ℕ) → (nat_lt other (micros - other) && nat_le 50000 (micros - other)) ≡ took_much_longer micros other
-much_longer_by micros other = ap₂ (λ (a b : Bool). a && b) twice more
-  where
-    twice : nat_lt other (micros - other) ≡ nat_lt (2 * other) micros
-    twice = grind (arith, nat_tests)
-
-    more : nat_le 50000 (micros - other) ≡ nat_le (other + 50000) micros
-    more = grind (arith, nat_tests)
 
 is_less : (one other : ℕ) → nat_lt one other ≡ true → one < other
 is_less one other test = grind (arith, nat_tests)
@@ -130,18 +120,25 @@ found_so_far found [] = (λ i. record { count = none i; slowest = slowest_alone 
   where
     none : found.count ≡ found.count + 0
     none = omega arith
-found_so_far found (answer ∷ rest) = by_test (is_longer answer) refl
+found_so_far found (answer ∷ rest) =
+    by_test (is_longer answer) refl (found_so_far (record { count = found.count + 1; slowest = Some (slowest_with found.slowest answer) }) rest) (found_so_far found rest)
   where
-    by_test : (test : Bool) → is_longer answer ≡ test → longer_behind found (answer ∷ rest) ≡ of_both found (answer ∷ rest)
-    by_test true is = rw is (found_so_far (record { count = found.count + 1; slowest = Some (slowest_with found.slowest answer) }) rest ∙ one_more)
-      where
-        counted : (found.count + 1) + length (longer_ones rest) ≡ found.count + length (answer ∷ longer_ones rest)
-        counted = omega arith
+    further : LongerAnswers
+    further = record { count = found.count + 1; slowest = Some (slowest_with found.slowest answer) }
 
-        one_more : of_both (record { count = found.count + 1; slowest = Some (slowest_with found.slowest answer) }) rest
-            ≡ record { count = found.count + length (answer ∷ longer_ones rest); slowest = slowest_behind_so_far found.slowest (answer ∷ longer_ones rest) }
-        one_more = (λ i. record { count = counted i; slowest = slowest_moves found.slowest answer (longer_ones rest) i })
-    by_test false is = rw is (found_so_far found rest)
+    counted : (found.count + 1) + length (longer_ones rest) ≡ found.count + length (answer ∷ longer_ones rest)
+    counted = omega arith
+
+    one_more : of_both further rest ≡ record { count = found.count + length (answer ∷ longer_ones rest); slowest = slowest_behind_so_far found.slowest (answer ∷ longer_ones rest) }
+    one_more = (λ i. record { count = counted i; slowest = slowest_moves found.slowest answer (longer_ones rest) i })
+
+    by_test : (test : Bool) → is_longer answer ≡ test → longer_behind further rest ≡ of_both further rest → longer_behind found rest ≡ of_both found rest
+        → longer_behind found (answer ∷ rest) ≡ of_both found (answer ∷ rest)
+    by_test true is with_it without = rw is (with_it ∙ one_more)
+    by_test false is with_it without = rw is without
 
 pub longer_are_found_one_by_one : LongerAreFoundOneByOne
-longer_are_found_one_by_one answers = found_so_far none_longer answers
+longer_are_found_one_by_one answers = found_so_far none_longer answers ∙ (λ i. record { count = from_none i; slowest = slowest_one (longer_ones answers) })
+  where
+    from_none : 0 + length (longer_ones answers) ≡ length (longer_ones answers)
+    from_none = omega arith
