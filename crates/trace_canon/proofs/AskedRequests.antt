@@ -17,7 +17,6 @@ use Rattle.uds_exchange.specs.Meaning.{is_answer_to, is_pending_reply_to, is_tes
 use Rattle.uds_exchange.specs.OneMessage.{step_of}
 use Rattle.uds_exchange.specs.Order.{open_request}
 use Rattle.uds_exchange.specs.declared.judge.Judged.{Judged}
-use Rattle.uds_exchange.specs.declared.step.Step.TheVariants as becomes
 use Rattle.uds_exchange.proofs.Promises.{open_request_goes_on}
 use Rattle.trace_log.specs.Messages.{messages_under}
 use Rattle.trace_run.specs.Seen.{IsSeen}
