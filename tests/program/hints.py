@@ -322,7 +322,7 @@ def exchanged_to_all(cases, folder):
             want = pair + (b"2 stray tester 3E80\n" if to_all in log and not profile else b"")
             cases.report(f"what the hint says with {name}{beside}", [] if (done.returncode, done.stdout) == (0, want) else [f"{done}"])
     Path(folder, "to-all.log").write_bytes(request + answer + to_all)
-    in_profile = told + "write tester = \"7E0\" and unit = \"7E8\" in $'to all.toml'"
+    in_profile = told + "write tester = \"7E0\" and unit = \"7E8\" in a [[unit]] of $'to all.toml'"
     hinted(cases, "exchanged sides of a unit with functional requests", ["list", "--profile", "to all.toml", "to-all.log"], folder, 0, in_profile)
 
 
@@ -348,9 +348,12 @@ def profiles(cases, folder):
         done = subprocess.run(["bash", "-c", command.replace("udsnorm", str(cases.program), 1)], cwd=folder, stdout=subprocess.PIPE, timeout=60)
         want = cases.run(["list", "short.log"], cwd=folder).output
         cases.report(f"what the hint says beside {name}", [] if (done.returncode, done.stdout) == (0, want) and want else [f"{done}"])
-    in_profile = 'write tester = "7E0" and unit = "7E8" in swapped.toml'
+    in_profile = 'write tester = "7E0" and unit = "7E8" in a [[unit]] of swapped.toml'
     for given in [["list", "--profile", "swapped.toml", "short.log"], ["messages", "--only", "engine", "--profile=swapped.toml", "short.log"]]:
         hinted(cases, f"exchanged sides of {shlex.join(given)}", given, folder, 0, told + in_profile)
+    Path(folder, "turned.log").write_bytes(b"(1.000000) can0 7E8#0322F190\n(1.010000) can0 7E0#0462F19041\n")
+    in_profile = 'tester and unit look exchanged in turned.log: write tester = "7E8" and unit = "7E0" in a [[unit]] of rules.toml'
+    hinted(cases, "exchanged sides under rules alone", ["list", "--profile", "rules.toml", "turned.log"], folder, 0, in_profile)
     for name, log in [("two words.log", VIN.read_bytes()), ("lost.log", LOST.read_bytes()), ("begun.log", b"(1.000000) can0 7E0#100A2EF190414243\n")]:
         Path(folder, name).write_bytes(log)
     for job in over_one_log(cases.program, "--profile"):

@@ -47,12 +47,12 @@ exchanged_options tester unit functional log =
     codes " --tester " ++ identifier_text unit ++ codes " --unit " ++ identifier_text tester ++ functional_option functional ++ behind_command log
 
 -- What exchanges these two identifiers: options; under a profile beside which such options stand, these behind it; and else
--- other values in that, whose units no option stands beside.
+-- other values in a unit of it, beside which no option stands.
 abbrev pub exchanging : Option UnderValue → Id → Id → Option Id → Option (List ℕ) → List ℕ
 exchanging None tester unit functional log = codes "udsnorm list" ++ exchanged_options tester unit functional log
 exchanging (Some under) tester unit functional log =
     if under.has_sides then codes "udsnorm list --profile=" ++ quoted under.file ++ exchanged_options tester unit functional log
-    else codes "write tester = \"" ++ identifier_text unit ++ codes "\" and unit = \"" ++ identifier_text tester ++ codes "\" in " ++ quoted under.file
+    else codes "write tester = \"" ++ identifier_text unit ++ codes "\" and unit = \"" ++ identifier_text tester ++ codes "\" in a [[unit]] of " ++ quoted under.file
 
 -- about a log in which these two identifiers look exchanged, beside that of functional requests
 abbrev pub exchanged_line : Option UnderValue → Id → Id → Option Id → Option (List ℕ) → List ℕ

@@ -149,7 +149,7 @@ impl<'a> Part for Exchanging<'a> {
     }
 }
 
-/// What exchanges them under a profile: options, where such stand beside it, and else other values in it.
+/// What exchanges them under a profile: options, where such stand beside it, and else other values in a unit of it.
 #[derive(Clone, Copy)]
 struct ExchangingUnder<'a>(Under<'a>, ExchangedOptions<'a>);
 
@@ -174,7 +174,7 @@ impl<'a> Part for ExchangingUnder<'a> {
                     Identifier(unit),
                     "\" and unit = \"",
                     Identifier(tester),
-                    "\" in ",
+                    "\" in a [[unit]] of ",
                     file,
                 ),
             );
