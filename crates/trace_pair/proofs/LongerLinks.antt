@@ -52,6 +52,7 @@ mark-of times left much = rw much refl
 
 named : (left right : SessionValue) (place : RowPlace) (begun : Option Begun) (times : RowTimes) → times_at left right place ≡ Some times → differ_much times ≡ true
     → HasAttribute (codes "id") (longer_name place.left) (row_text left right place begun)
+unfolding row-with
 named left right place begun times is much =
     let mark : longer_mark (times_at left right place) place.left ≡ codes "<span id=\"" ++ longer_name place.left ++ codes "\"></span>" =
     ap (λ (t : Option RowTimes). longer_mark t place.left) is ∙ mark-of times place.left much in
@@ -93,7 +94,8 @@ module _ (log : PairLog) (left right : SessionValue) where
   all-behind : (row : PlacedRow) (rows : List PlacedRow) (answers : List AnswerBeside) → AllByRecursion (HasItsRow left right rows) answers
       → AllByRecursion (HasItsRow left right (row ∷ rows)) answers
   all-behind row rows [] each = tt
-  all-behind row rows (answer ∷ later) (((found, (place, there), rest)), others) = ((found, (suc place, there), rest), all-behind row rows later others)
+  all-behind row rows (answer ∷ later) ((found, (place, there), on_left, on_right, named_so), others) =
+      ((found, (suc place, there), on_left, on_right, named_so), all-behind row rows later others)
 
   module _ (all : ℕ) where
     each-has : (before : ℕ) (front : Row) (i j more : ℕ) (rows : List Row)
