@@ -169,8 +169,6 @@ PLANTED = [
     ("a link to another row", "longer_answers", r'href="#t\d+"', 'href="#t1"'),
     ("a row that is not called by its name", "longer_answers", r'<span id="t\d+"></span>', ""),
     ("a row that is called so without a reason", "longer_answers", r'(<tr class="same"><th scope="row">1<td>1<td>)', '\\1<span id="t1"></span>'),
-    ("times that are not compared", "longer_answers", r"Times are compared in .* with a minus\. Times", "Times are not compared. Times"),
-    ("times that are compared", "request_changed", r"Times are not compared\.", "Times are compared in the verdict alone."),
 ]
 
 # The lengths of messages, and the places at which they differ, about those at which a page shows less of one.

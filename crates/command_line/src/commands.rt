@@ -189,14 +189,14 @@ pub(crate) fn after_help_of(command: &str) -> &'static str {
     }
 }
 
-/// The names of options and files in the parser's matches.
+/// The parser's names of options.
 pub(crate) const TESTER: &str = "tester";
 
 pub(crate) const UNIT: &str = "unit";
 
 pub(crate) const FUNCTIONAL: &str = "functional";
 
-/// That of the option which names the file of a profile.
+/// The parser's name of the option that names the file of a profile.
 pub const PROFILE: &str = "profile";
 
 pub(crate) const ONLY: &str = "only";
@@ -215,16 +215,16 @@ pub(crate) const SHOW: &str = "show";
 
 pub(crate) const HINTS: &str = "hints";
 
-/// That of the log, where one may be named, and of the left one beside a second.
+/// The parser's name of the log, where one may be named, and of the left one beside a second.
 pub const LOG: &str = "LOG";
 
-/// That of the second log, where one may be named.
+/// The parser's name of the second log, where one may be named.
 pub const OTHER: &str = "OTHER";
 
-/// That of the left log, where two have to be named.
+/// The parser's name of the left log, where two have to be named.
 pub const LEFT: &str = "A";
 
-/// That of the right one.
+/// The parser's name of the right one.
 pub const RIGHT: &str = "B";
 
 /// The identifiers that are meant where none are given.

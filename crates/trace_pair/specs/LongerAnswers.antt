@@ -1,6 +1,6 @@
 -- The answers that took much longer in one log than in the other: of the rows that have an item of both, each of which
 -- waited for its answer; and what the verdict says of them.
-use Rattle.std.specs.Prelude.{ℕ, ◌+◌, ◌==◌, Bool, ◌||◌, List, [], ◌∷◌, ◌++◌, codes, nat_lt, slice_get, Option, Some, None, if◌then◌else◌}
+use Rattle.std.specs.Prelude.{ℕ, ◌+◌, ◌==◌, List, [], ◌∷◌, ◌++◌, codes, slice_get, Option, Some, None, if◌then◌else◌}
 use Rattle.std.specs.Fmt.{decimal}
 use Rattle.std.specs.List.{flat_map}
 use Rattle.text_parts.specs.Parts.{text_if_some}
@@ -50,10 +50,6 @@ answers_beside log left right before behind rows = flat_map (answers_in_row log 
 -- how many answers took much longer in a log than in the other, and the slowest of these
 abbrev pub longer_in : PairLog → SessionValue → SessionValue → List Row → LongerAnswers
 longer_in log left right rows = longer_answers (answers_beside log left right 0 0 rows)
-
--- an answer took much longer in one of both logs
-abbrev pub some_longer : LongerAnswers → LongerAnswers → Bool
-some_longer left right = nat_lt 0 left.count || nat_lt 0 right.count
 
 -- In words.
 

@@ -79,13 +79,6 @@ impl LongerRows {
             None => self,
         }
     }
-
-    /// Whether there is one.
-    pub(crate) fn some(self) -> bool
-        ensures { result ≡ Spec.some_longer self.left self.right }
-    {
-        self.left.count > 0 || self.right.count > 0
-    }
 }
 
 /// The answer of a log in a row with these times, beside that of the other log.

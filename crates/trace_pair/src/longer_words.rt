@@ -34,7 +34,7 @@ fn say_line<S: TextSink>(log: PairLog, found: LongerAnswers, sessions: Sessions<
                 LongerFront(log, found.count),
                 LinkToRow(slowest),
                 TitleIf(rules, item),
-                TimesWords(log, slowest),
+                BothTimes(log, slowest),
             ),
         );
     }
@@ -112,15 +112,15 @@ impl Part for LinkToRow {
 
 /// How long an answer of a log took, and the one beside it.
 #[derive(Clone, Copy)]
-struct TimesWords(PairLog, AnswerBeside);
+struct BothTimes(PairLog, AnswerBeside);
 
-impl Part for TimesWords {
+impl Part for BothTimes {
     ghost use Rattle.trace_pair.specs.LongerAnswers.{times_words};
 
     ghost text = { λ words. times_words words.0 words.1 };
 
     fn say<S: TextSink>(self, out: &mut S) {
-        let TimesWords(log, answer) = self;
+        let BothTimes(log, answer) = self;
         let (micros, other) = (Duration(answer.micros), Duration(answer.other));
         match log {
             PairLog::A => say(out, (", <b>", micros, "</b> in A, ", other, " in B.</p>\n")),

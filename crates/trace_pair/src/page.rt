@@ -106,7 +106,7 @@ fn say_aligned<S: TextSink>(title: &Title<'_>, aligned: &Aligned<'_>, out: &mut 
     say_items(sessions, rows, out);
     say_both_counts(title, sessions, out);
     say(out, "</main>\n");
-    say(out, PairHelp(longer.some()));
+    say(out, PairHelp);
 }
 
 /// Says all counts of both logs.
@@ -179,7 +179,7 @@ fn say_unread<S: TextSink>(
                 "</p>\n",
                 CauseLine(cause),
                 "</section>\n<main>\n<section id=\"items\">\n<h2>Items</h2>\n<p>Nothing is compared.</p>\n</section>\n</main>\n",
-                PairHelp(false),
+                PairHelp,
             ),
         );
     }
