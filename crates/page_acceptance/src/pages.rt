@@ -400,7 +400,7 @@ fn answers_that_took_much_longer_are_told(rt: HostRuntime) -> Result<(), Fail> {
         ],
     );
     let page = page_of_two(alloc, SLOW, SLOW)?;
-    assert_page(&rt, &page, &["Times are not compared"]);
+    assert_page(&rt, &page, &["The two sessions are the same</h2>"]);
     assert!(rt; !page.contains("answer took") && !page.contains("id=\"t2\""));
     Ok(())
 }
