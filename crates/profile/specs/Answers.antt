@@ -1,7 +1,15 @@
 -- What calls answer, by bytes.
-use Rattle.std.specs.Prelude.{◌≡◌, ◌+◌, ◌≤◌, List, length, map, string_bytes, Option, Some, None, Result, Ok, Err}
+use Rattle.std.specs.Borrow.{Bor}
+use Rattle.std.specs.BTreeMap.{BTreeMap}
+use Rattle.std.specs.Prelude.{◌≡◌, ◌+◌, ◌≤◌, List, [], length, map, string_bytes, String, Option, Some, None, option_map, Result, Ok, Err}
+use Rattle.std.specs.declared.alloc.Global.{Global}
 use Rattle.arrayvec.specs.ArrayVec.{ArrayVec}
+use Rattle.toml.specs.Data.{Members}
+use Rattle.toml.specs.View.{table_view}
+use Rattle.toml.specs.declared.value.Value.{Value}
+use Rattle.bench_names.specs.Names.{NameValue}
 use Rattle.uds_rules.specs.Rule.{RuleValue}
+use Rattle.profile.specs.ProfileNames.{members_or_none, names_among}
 use Rattle.profile.specs.Wrong.{WrongValue, wrong_value}
 use Rattle.profile.specs.UnitWrong.{UnitWrongValue, unit_wrong_value}
 use Rattle.profile.specs.Units.{UnitValue}
@@ -23,6 +31,15 @@ added (Some wrong) rules = Err (wrong_value wrong)
 abbrev pub seen_rules : Result (List RuleValue) Wrong → Result (List RuleValue) WrongValue
 seen_rules (Ok rules) = Ok rules
 seen_rules (Err wrong) = Err (wrong_value wrong)
+
+-- the members of a table of names, if there is one, none where there is not
+abbrev pub seen_members : Option (Bor (BTreeMap (String Global) Value)) → Members
+seen_members table = members_or_none (option_map (λ table. table_view table.now) table)
+
+-- the names that a table says, or what is wrong
+abbrev pub seen_names : Result (Option (Bor (BTreeMap (String Global) Value))) Wrong → Result (List NameValue) WrongValue
+seen_names (Ok table) = Ok (names_among [] (seen_members table))
+seen_names (Err wrong) = Err (wrong_value wrong)
 
 -- a unit by bytes
 abbrev pub unit_value : ControlUnit → UnitValue
@@ -49,14 +66,14 @@ seen_units (Err wrong) = Err (wrong_value wrong)
 
 -- a profile by bytes
 abbrev pub profile_value : Profile → ProfileValue
-profile_value profile = record { rules = profile.rules; units = map unit_value profile.units.items }
+profile_value profile = record { rules = profile.rules; names = profile.names; units = map unit_value profile.units.items }
 
--- a profile has a rule or a unit: it takes memory
+-- a profile has a rule, a name or a unit: it takes memory
 abbrev pub TakesMemory : ProfileValue → Type 0
-TakesMemory profile = 1 ≤ length profile.rules + length profile.units
+TakesMemory profile = 1 ≤ length profile.rules + length profile.names + length profile.units
 
--- The answer is this profile, or that this is wrong. Memory is refused to a profile alone, and to none without a rule and a
--- unit: what is wrong is told without any.
+-- The answer is this profile, or that this is wrong. Memory is refused to a profile alone, and to none without a rule, a name
+-- and a unit: what is wrong is told without any.
 abbrev pub Reads : Result ProfileValue WrongValue → Result Profile ProfileFault → Type 0
 Reads read (Ok profile) = read ≡ Ok (profile_value profile)
 Reads read (Err fault.Memory) = (profile : ProfileValue) × (read ≡ Ok profile) × TakesMemory profile

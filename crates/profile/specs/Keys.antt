@@ -5,6 +5,7 @@ use Rattle.toml.specs.Data.{Data, Items, no_items, item, Members, no_members, me
 use Rattle.uds_rules.specs.Rule.{RuleValue}
 use Rattle.uds_rules.specs.Pattern.{drop_rule, mask_rule}
 use Rattle.uds_rules.specs.declared.rule.RuleFault.{RuleFault}
+use Rattle.profile.specs.NameKeys.{wrong_names}
 use Rattle.profile.specs.Wrong.{WrongValue, unknown_key, not_strings, not_units, bad_rule}
 use Rattle.profile.specs.declared.wrong.RuleKey.{RuleKey}
 use Rattle.profile.specs.declared.wrong.RuleKey.TheVariants as rule_key
@@ -55,6 +56,7 @@ wrong_key key value =
     if bytes_eq key (codes "drop") then wrong_rules rule_key.Drop (as_array value)
     else if bytes_eq key (codes "mask") then wrong_rules rule_key.Mask (as_array value)
     else if bytes_eq key (codes "unit") then wrong_units (as_array value)
+    else if bytes_eq key (codes "names") then wrong_names (as_table value)
     else Some (unknown_key key)
 
 -- the first key, by its bytes, with which something is wrong: a table has its keys in their order

@@ -1,10 +1,13 @@
 pub mod Document
 pub mod UnitWrong
 pub mod Wrong
+pub mod NameKeys
 pub mod Keys
 pub mod ProfileRules
+pub mod ProfileNames
 pub mod UnitKeys
 pub mod Units
 pub mod Profile
 pub mod Answers
 pub mod Laws
+pub mod NameLaws

@@ -1,7 +1,7 @@
 //! A profile as TOML, and what stands at its keys.
 
 ghost use Rattle.std.specs.Prelude.{◌≡◌, option_map, option_and_then};
-ghost use Rattle.toml.specs.Data.{as_array, as_str, get_member};
+ghost use Rattle.toml.specs.Data.{as_array, as_str, as_table, get_member};
 ghost use Rattle.toml.specs.View.{array_view, table_view};
 ghost use Rattle.profile.specs.Document as Text;
 ghost use Rattle.profile.specs.ProfileRules as Spec;
@@ -67,6 +67,16 @@ pub(crate) fn array_at<'a>(table: &'a Table, key: &str) -> Option<&'a Array>
 {
     match table.get(key) {
         Some(value) => value.as_array(),
+        None => None,
+    }
+}
+
+/// The table at a key, if one stands there.
+pub(crate) fn table_at<'a>(table: &'a Table, key: &str) -> Option<&'a Table>
+    ensures { option_map (λ table. table_view table.now) result ≡ option_and_then as_table (get_member key.now (table_view table.now)) }
+{
+    match table.get(key) {
+        Some(value) => value.as_table(),
         None => None,
     }
 }

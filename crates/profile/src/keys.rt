@@ -5,6 +5,7 @@ ghost use Rattle.toml.specs.View.{view, items_view, array_view, table_view};
 ghost use Rattle.profile.specs.Keys as Spec;
 ghost use Rattle.profile.specs.Wrong.{wrong_value};
 
+use crate::name_keys::wrong_names;
 use crate::wrong::{RuleKey, Wrong};
 use toml::value::Array;
 use toml::{Table, Value};
@@ -34,6 +35,9 @@ fn wrong_key<'a>(key: &'a str, value: &'a Value) -> Option<Wrong<'a>>
     }
     if key == "unit" {
         return wrong_units(value.as_array());
+    }
+    if key == "names" {
+        return wrong_names(value.as_table());
     }
     Some(Wrong::UnknownKey(key))
 }

@@ -1,14 +1,17 @@
 //! What a document asks for.
 
-ghost use Rattle.std.specs.Prelude.{◌≡◌, ◌+◌, ◌≤◌, length, map, IfOk, OnErr};
+ghost use Rattle.std.specs.Prelude.{◌≡◌, ◌+◌, ◌≤◌, [], length, map, IfOk, OnErr};
 ghost use Rattle.toml.specs.View.{table_view};
 ghost use Rattle.profile.specs.Profile as Spec;
-ghost use Rattle.profile.specs.Answers.{Reads, parts_value, profile_value};
+ghost use Rattle.profile.specs.ProfileNames.{AreRightNames, member_count, names_among};
+ghost use Rattle.profile.specs.Answers.{Reads, parts_value, profile_value, seen_members};
 
 use crate::keys::wrong_keys;
+use crate::profile_names::{kept_names, profile_names};
 use crate::profile_rules::profile_rules;
 use crate::units::{ControlUnit, UnitParts, kept_units, profile_units};
 use crate::wrong::Wrong;
+use bench_names::BenchNames;
 use std::alloc::{AllocError, Global};
 use toml::Table;
 use uds_rules::{RuleTable, Rules};
@@ -18,6 +21,8 @@ use uds_rules::{RuleTable, Rules};
 pub struct Profile {
     /// The rules of its sessions: drops, and then masks.
     pub rules: Rules,
+    /// What it calls its requests.
+    pub names: BenchNames,
     /// Its units, in their order.
     pub units: Vec<ControlUnit>,
 }
@@ -32,7 +37,7 @@ pub enum ProfileFault<'a> {
 }
 
 /// The profile that a document is, or the first thing that is wrong in it: the keys, each by itself, in the order of
-/// their bytes; the rules beside one another; the units, in their order.
+/// their bytes; the rules beside one another; the names beside one another; the units, in their order.
 pub fn profile_of<'a>(alloc: Global, document: &'a Table) -> Result<Profile, ProfileFault<'a>>
     ensures { Reads (Spec.profile_of (table_view document.now)) result }
 {
@@ -43,22 +48,38 @@ pub fn profile_of<'a>(alloc: Global, document: &'a Table) -> Result<Profile, Pro
         Ok(rules) => rules,
         Err(wrong) => return Err(ProfileFault::Wrong(wrong)),
     };
+    let names = match profile_names(document) {
+        Ok(names) => names,
+        Err(wrong) => return Err(ProfileFault::Wrong(wrong)),
+    };
     let units = match profile_units(document) {
         Ok(units) => units,
         Err(wrong) => return Err(ProfileFault::Wrong(wrong)),
     };
-    match kept(alloc, rules, units.as_slice()) {
+    match kept(alloc, rules, names, units.as_slice()) {
         Ok(profile) => Ok(profile),
         Err(_) => Err(ProfileFault::Memory),
     }
 }
 
-/// The profile of these rules and units, which it keeps: both are right.
-fn kept(alloc: Global, rules: RuleTable, units: &[UnitParts<'_>]) -> Result<Profile, AllocError>
-    ensures ok { IfOk result (λ profile. profile_value profile ≡ record { rules = rules; units = map parts_value units.now }) }
-    ensures err { OnErr result (1 ≤ length rules + length units.now) }
+/// The profile of these rules, names and units, which it keeps: all are right.
+fn kept(
+    alloc: Global,
+    rules: RuleTable,
+    names: Option<&Table>,
+    units: &[UnitParts<'_>],
+) -> Result<Profile, AllocError>
+    requires { AreRightNames (seen_members names.entry) }
+    ensures ok { IfOk result (λ profile. profile_value profile
+        ≡ record { rules = rules; names = names_among [] (seen_members names.entry); units = map parts_value units.now }) }
+    ensures err { OnErr result (1 ≤ length rules + member_count (seen_members names.entry) + length units.now) }
 {
     let rules = Rules::of_table(alloc, rules)?;
+    let names = kept_names(alloc, names)?;
     let units = kept_units(alloc, units)?;
-    Ok(Profile { rules, units })
+    Ok(Profile {
+        rules,
+        names,
+        units,
+    })
 }

@@ -1,0 +1,5 @@
+mod Orders
+mod Nearest
+mod Inserting
+mod OneName
+pub mod Promises
