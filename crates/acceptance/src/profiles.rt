@@ -66,6 +66,64 @@ shared 1 2
 drop = [\"3E\", \"67\"]
 mask = [\"6701*\"]
 
+names
+names = [\"22F1B5\"]
+
+names
+names = { 22 = \"identifier\", 31 = 1 }
+
+no prefix 22F
+names = { 22F = \"identifier\" }
+
+no prefix 00112233445566778899AABBCCDDEEFF00
+names = { 00112233445566778899AABBCCDDEEFF00 = \"long\" }
+
+no prefix 22F1??
+names = { \"22F1??\" = \"\" }
+
+22: Length
+names = { 22 = \"\" }
+
+22: Length
+names = { 22 = \"äöüäöüäöüäöüäöüäöüäöüäöüäöüäöüäöüäöüäöüäöüäöüäöüäöüäöüäöüäöüäöüäö\" }
+
+22: Control
+names = { 22 = \"a\\tb\" }
+
+22: Control
+names = { 22 = \"a\\u007F\" }
+
+22: Control
+names = { 22 = \"a\\u009F\" }
+
+22: Control
+names = { 22 = \"\\u0000\", 31 = \"\" }
+
+names 22F1 22F1B5
+names = { 22F1 = \"identification\", 22F1B5 = \"boot block\", 22F1B500 = \"another\" }
+
+names 22F1B5 22f1
+names = { 22F1B5 = \"boot block\", 22F1B6 = \"application\", 22f1 = \"identification\" }
+
+names 3E80 3e80
+names = { \"3E80\" = \"timer\", 3e80 = \"timer\" }
+
+drop: bad rule zz
+names = { 22 = \"identifier\", 22F1 = \"identification\" }
+drop = [\"zz\"]
+
+shared 0 1
+names = { 22 = \"identifier\", 22F1 = \"identification\" }
+drop = [\"3E\", \"3E80\"]
+
+names 22 22F1
+names = { 22 = \"identifier\", 22F1 = \"identification\" }
+unit = [{ name = \"engine\" }]
+
+units
+names = { 22 = \"identifier\", 22F1 = \"identification\" }
+unit = [1]
+
 units
 unit = [1]
 
@@ -112,6 +170,46 @@ unit = \"7E8\"
 name = \"Engine\"
 tester = \"7e0\"
 unit = \"7e8\"";
+
+/// The names of a bench, their keys in either case.
+const NAMES: &str = "\
+[names]
+22f1b5 = \"boot block version\"
+22F1B6 = \"Anwendung\"
+3101FF00 = \"erase memory\"
+2101 = \"identifier 01\"
+3102 = \"routine 02\"
+fF = \"last\"
+00 = \"first\"
+1112131415161718191A1B1C1D1E1F20 = \"sixteen bytes\"
+";
+
+/// Messages in digits, and what this bench calls them.
+const NAMED: &str = "\
+22F1B5 boot block version
+22F1B500 boot block version
+22F1B6 Anwendung
+22F1 -
+22 -
+22F1B4 -
+22F1B7 -
+22F190 -
+2EF1B5 -
+2101 identifier 01
+21 -
+2100FF -
+3101FF00 erase memory
+3101FF0044 erase memory
+3101FF -
+3101FF01 -
+3102FF00 routine 02
+FF last
+FF00 last
+00 first
+01 -
+1112131415161718191A1B1C1D1E1F20 sixteen bytes
+1112131415161718191A1B1C1D1E1F2021 sixteen bytes
+1112131415161718191A1B1C1D1E1F -";
 
 #[test]
 fn rules_make_of_messages_what_they_say(rt: HostRuntime) -> Result<(), Fail> {
@@ -171,6 +269,71 @@ fn a_bench_is_read(rt: HostRuntime) -> Result<(), Fail> {
     Ok(())
 }
 
+#[test]
+fn messages_are_called_as_the_bench_says(rt: HostRuntime) -> Result<(), Fail> {
+    let alloc = rt.alloc();
+    let document = parse(alloc, NAMES.as_bytes()).ok().ok_or("no TOML")?;
+    let profile = profile_of(alloc, &document).ok().ok_or("no profile")?;
+    assert_eq!(rt; profile.names.as_slice().len(), 8);
+    for row in lines_of(NAMED) {
+        let (message, expected) = row.split_once(' ').ok_or("nothing expected")?;
+        let message = bytes_of(alloc, message)?;
+        assert_text(
+            &rt,
+            row,
+            profile.names.name_of(&message).unwrap_or("-"),
+            expected,
+        );
+    }
+    assert_text(
+        &rt,
+        "no byte",
+        profile.names.name_of(&[]).unwrap_or("-"),
+        "-",
+    );
+    Ok(())
+}
+
+#[test]
+fn a_bench_has_1024_names(rt: HostRuntime) -> Result<(), Fail> {
+    let alloc = rt.alloc();
+    let document = parse(alloc, names_up_to(alloc, 1_024)?.as_bytes())
+        .ok()
+        .ok_or("no TOML")?;
+    let profile = profile_of(alloc, &document).ok().ok_or("no profile")?;
+    for number in 0..1_024_u64 {
+        let prefix = format!(in alloc; "22{number:04x}")?;
+        let name = format!(in alloc; "name {number}")?;
+        let message = bytes_of(alloc, prefix.as_str())?;
+        assert_eq!(rt; profile.names.name_of(&message), Some(name.as_str()));
+    }
+    assert!(rt; profile.names.name_of(&[0x22, 0x04, 0x00]).is_none());
+    let document = parse(alloc, names_up_to(alloc, 1_025)?.as_bytes())
+        .ok()
+        .ok_or("no TOML")?;
+    assert_text(
+        &rt,
+        "1025 names",
+        wrong_in(alloc, &document)?.as_str(),
+        "many names",
+    );
+    Ok(())
+}
+
+/// So many names, their keys with digits in either case.
+fn names_up_to(alloc: Global, count: u64) -> Result<String, Fail> {
+    let mut text = String::from_str(alloc, "[names]\n")?;
+    for number in 0..count {
+        let key = if number % 3 == 0 {
+            format!(in alloc; "22{number:04x}")?
+        } else {
+            format!(in alloc; "22{number:04X}")?
+        };
+        text.push_str(format!(in alloc; "{key} = \"name {number}\"\n")?.as_str())?;
+    }
+    Ok(text)
+}
+
 /// What a rule makes of a message, in digits, or why there is no such rule.
 fn ruled(alloc: Global, rule: &str, message: &str) -> Result<String, Fail> {
     let rule = match rule_of(rule)? {
@@ -217,8 +380,13 @@ fn wrong_words(alloc: Global, wrong: &Wrong<'_>) -> Result<String, Fail> {
         Wrong::NotUnits => String::from_str(alloc, "units")?,
         Wrong::BadRule(RuleKey::Drop, text, _) => format!(in alloc; "drop: bad rule {text}")?,
         Wrong::BadRule(RuleKey::Mask, text, _) => format!(in alloc; "mask: bad rule {text}")?,
+        Wrong::NotNames => String::from_str(alloc, "names")?,
+        Wrong::NotAPrefix(key) => format!(in alloc; "no prefix {key}")?,
+        Wrong::BadName(key, fault) => format!(in alloc; "{key}: {fault:?}")?,
         Wrong::ManyRules => String::from_str(alloc, "many rules")?,
         Wrong::Shared(earlier, later) => format!(in alloc; "shared {earlier} {later}")?,
+        Wrong::ManyNames => String::from_str(alloc, "many names")?,
+        Wrong::SharedName(earlier, later) => format!(in alloc; "names {earlier} {later}")?,
         Wrong::ManyUnits => String::from_str(alloc, "many units")?,
         Wrong::InUnit(number, wrong) => unit_words(alloc, *number, wrong)?,
     };
