@@ -5,12 +5,13 @@ program: rules are regular expressions over hexadecimal digits, and a message is
 
 import re
 import tomllib
+import unicodedata
 from collections import namedtuple
 
 import oracle
 from oracle import DIFFERENT, DONE, FUNCTIONAL, GIBIBYTE, REFUSED, SIDES, TESTER, UNCLEAN, UNIT, Outcome, Told
 
-Profile = namedtuple("Profile", "rules units")
+Profile = namedtuple("Profile", "rules names units")
 Rule = namedtuple("Rule", "kind text prefix places cuts")
 Unit = namedtuple("Unit", "name tester unit functional", defaults=[None])
 
@@ -69,6 +70,30 @@ def is_text(value):
     return isinstance(value, str)
 
 
+def wrong_name(key, text):
+    """Raises what is wrong with one name by itself."""
+    if not PREFIX.fullmatch(key):
+        raise Wrong(f"names {spelled_rule(key)}: not a prefix")
+    if not 1 <= len(text) <= 64:
+        raise Wrong(f"names {spelled_rule(key)}: not 1 to 64 characters")
+    if any(unicodedata.category(character) == "Cc" for character in text):
+        raise Wrong(f"names {spelled_rule(key)}: a control character")
+
+
+def names_of(table):
+    """The names of a table by their prefixes, or what is wrong with them beside one another."""
+    if len(table) > 1024:
+        raise Wrong("more than 1024 names")
+    names = {}
+    for key in sorted(table, key=str.encode):
+        prefix = key.upper()
+        for other, (earlier, _) in names.items():
+            if prefix.startswith(other) or other.startswith(prefix):
+                raise Wrong(f"names {spelled_rule(earlier)} and {spelled_rule(key)} are names for one request")
+        names[prefix] = key, table[key]
+    return {prefix: text for prefix, (_, text) in names.items()}
+
+
 def wrong_key(key, value):
     """Raises what is wrong with one key by itself."""
     if key in ("drop", "mask"):
@@ -79,6 +104,11 @@ def wrong_key(key, value):
     elif key == "unit":
         if not isinstance(value, list) or not all(isinstance(each, dict) for each in value):
             raise Wrong("unit: not written as [[unit]]")
+    elif key == "names":
+        if not isinstance(value, dict) or not all(map(is_text, value.values())):
+            raise Wrong("names: not a table of strings")
+        for prefix in sorted(value, key=str.encode):
+            wrong_name(prefix, value[prefix])
     else:
         raise Wrong(f"{spelled_key(key)}: unknown key")
 
@@ -137,6 +167,7 @@ def read(data):
         for other in rules[:n]:
             if rule.prefix.startswith(other.prefix) or other.prefix.startswith(rule.prefix):
                 raise Wrong(f"{spelled_rule(other.text)} and {spelled_rule(rule.text)} are rules for one message")
+    names = names_of(document.get("names", {}))
     tables, units = document.get("unit", []), []
     if len(tables) > 64:
         raise Wrong("more than 64 units")
@@ -145,7 +176,7 @@ def read(data):
             units.append(unit_of(table, units))
         except Wrong as wrong:
             raise Wrong(f"unit {number}: {wrong}") from None
-    return Profile(rules, units)
+    return Profile(rules, names, units)
 
 
 # --- Messages under rules -----------------------------------------------------------------------------------------------

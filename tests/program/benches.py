@@ -97,7 +97,7 @@ def row(cases, name, profile, logs, row):
         wrong += differences("found", found.output, want[0])
     if not row.has("page") and status != WORDS:
         files = [word for word in words if word in logs]
-        asked = [word for word in words if word not in logs], profiles.Profile([], []) if is_plain else profile, [logs[file] for file in files]
+        asked = [word for word in words if word not in logs], profiles.Profile([], {}, []) if is_plain else profile, [logs[file] for file in files]
         read = under_rules.asked(*asked, names=[file.encode() for file in files])
         wrong += differences("read again", (read.status, read.written, read.fault), (found.status, found.output, None))
     cases.report(f"{name}: {row.name}", wrong)

@@ -73,12 +73,16 @@ def rows_of(table):
 
 
 def bounds(cases):
-    """64 rules and units, 65,536 bytes, 16 bytes of a prefix, 64 places and 32 letters are legal, and one more is not."""
+    """64 rules and units, 1,024 names of 64 characters, 65,536 bytes, 16 bytes of a prefix, 64 places and 32 letters are legal, and one more
+    is not."""
     rules = [f"{number:04X}" for number in range(0x2200, 0x2200 + 65)]
     units = [UNIT.format(f"u{number}", f"{number:03X}", "7E8") for number in range(65)]
     for name, count, text in [
         ("rules", 64, lambda n: f"drop = {rules[:n]}".replace("'", '"')),
         ("units", 64, lambda n: "".join(units[:n])),
+        ("names", 1024, lambda n: "[names]\n" + "".join(f'22{number:04X} = "{number}"\n' for number in range(n))),
+        ("characters of a name", 64, lambda n: f'[names]\n22 = "{"\U0001F697" * n}"'),
+        ("bytes of a name's prefix", 16, lambda n: f'[names]\n{"22" * n} = "name"'),
         ("bytes", profiles.LONGEST, lambda n: "#" * n),
         ("bytes of a prefix", 16, lambda n: f'drop = ["{"22" * n}"]'),
         ("places", 64, lambda n: f'mask = ["2201{".." * n}"]'),
@@ -234,7 +238,7 @@ def names_of_a_script(cases):
 
 def no_rules(cases):
     """A profile that asks for nothing changes nothing."""
-    for text in ("", "\ufeff# nothing\r\n", "drop = []\nmask = []\n", "unit = []", ENGINE):
+    for text in ("", "\ufeff# nothing\r\n", "drop = []\nmask = []\n", "unit = []", "names = {}", ENGINE):
         for words in (["normalise"], ["list", "--json"], ["messages"], ["explain"], ["report"]):
             cases.case(f"{text!r}: {words}", cases.run([*words, *written(text)], FIRST), *cases.run(words, FIRST))
 
@@ -288,7 +292,7 @@ def found_units(cases):
         text = cases.run(["find", "--toml"], log).output
         lines = cases.run(["find"], log).output.decode().splitlines()[:64]
         sides = [line.split(" ")[2::2] for line in lines]
-        told = profiles.Profile([], [profiles.Unit(f"{tester}-{unit}", tester, unit, *functional) for tester, unit, *functional in sides])
+        told = profiles.Profile([], {}, [profiles.Unit(f"{tester}-{unit}", tester, unit, *functional) for tester, unit, *functional in sides])
         cases.report(f"units of {name}", [] if profiles.read(text) == told else [f"{profiles.read(text)} and not {told}"])
         only = ["--only", told.units[-1].name] if told.units else []
         cases.case(f"units of {name}, taken", cases.run(["list", *written(text), *only], b""), DONE)

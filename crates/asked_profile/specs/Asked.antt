@@ -27,7 +27,7 @@ abbrev pub IsToldOf : ℕ → List ℕ → AskedFault → Type 0
 IsToldOf line text fault.Memory = 1 ≤ length text
 IsToldOf line text (fault.Wrong told) = (told.line ≡ line) × (told.text.items ≡ text)
 
--- what a document asks for takes memory: a rule or a unit, or what is told of a wrong one
+-- what a document asks for takes memory: a rule, a name or a unit, or what is told of a wrong one
 abbrev pub TakesMemoryOf : Members → Result ProfileValue WrongValue → Type 0
 TakesMemoryOf document (Ok profile) = TakesMemory profile
 TakesMemoryOf document (Err wrong) = 1 ≤ length (wrong_text document wrong)
@@ -48,7 +48,7 @@ pub data IsWrong : List ℕ → ℕ → List ℕ → Type 0 where
       → IsWrong text 0 (wrong_text document wrong)
 
 -- What memory is taken for: the document of a text that has more than white space and comments; its profile, where that has
--- a rule or a unit; and what is told of a wrong one.
+-- a rule, a name or a unit; and what is told of a wrong one.
 pub data WantsMemory : List ℕ → Type 0 where
   for_document : {text : List ℕ} → length text ≤ 65536 → (IsBlank text → ⊥) → WantsMemory text
   for_profile : {text : List ℕ} (profile : ProfileValue) → IsReadable text → asked_by text ≡ Some (Ok profile) → TakesMemory profile → WantsMemory text

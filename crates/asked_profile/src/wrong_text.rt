@@ -1,9 +1,10 @@
 //! What is told of a profile with which something is wrong.
 
 ghost use Rattle.std.specs.Prelude.{◌≡◌};
-ghost use Rattle.asked_profile.specs.WrongText.{rule_fault_text, rule_key_text};
+ghost use Rattle.asked_profile.specs.WrongText.{name_fault_text, rule_fault_text, rule_key_text};
 
 use crate::unit_wrong_text::UnitWrongText;
+use bench_names::NameFault;
 use line_text::{AsWritten, Clipped};
 use profile::{RuleKey, Wrong, written_rule};
 use text_parts::{Part, say};
@@ -39,11 +40,29 @@ impl<'a> Part for WrongText<'a> {
                     (rule_key_text(key), " ", rule, ": ", rule_fault_text(fault)),
                 );
             }
+            Wrong::NotNames => say(out, "names: not a table of strings"),
+            Wrong::NotAPrefix(key) => {
+                let key = AsWritten(key.as_bytes());
+                say(out, ("names ", key, ": not a prefix"))
+            }
+            Wrong::BadName(key, fault) => {
+                let key = AsWritten(key.as_bytes());
+                say(out, ("names ", key, ": ", name_fault_text(fault)))
+            }
             Wrong::ManyRules => say(out, "more than 64 rules"),
             Wrong::Shared(earlier, later) => {
                 let one = RuleAt(earlier, document);
                 let other = RuleAt(later, document);
                 say(out, (one, " and ", other, " are rules for one message"));
+            }
+            Wrong::ManyNames => say(out, "more than 1024 names"),
+            Wrong::SharedName(earlier, later) => {
+                let one = AsWritten(earlier.as_bytes());
+                let other = AsWritten(later.as_bytes());
+                say(
+                    out,
+                    ("names ", one, " and ", other, " are names for one request"),
+                );
             }
             Wrong::ManyUnits => say(out, "more than 64 units"),
             Wrong::InUnit(number, wrong) => {
@@ -89,5 +108,15 @@ fn rule_fault_text(fault: RuleFault) -> &'static str
         RuleFault::NothingMasked => "nothing is masked",
         RuleFault::KindMasked => "3E and 7F can't be masked",
         RuleFault::SubFunctionMasked => "a sub-function can't be masked",
+    }
+}
+
+/// Why a text is no name.
+fn name_fault_text(fault: NameFault) -> &'static str
+    ensures { result.now ≡ name_fault_text fault }
+{
+    match fault {
+        NameFault::Length => "not 1 to 64 characters",
+        NameFault::Control => "a control character",
     }
 }

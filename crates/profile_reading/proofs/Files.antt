@@ -13,7 +13,7 @@ use Rattle.can_log.specs.Canonical.{identifier_text}
 use Rattle.can_log.specs.Frame.{FrameValue}
 use Rattle.can_log.specs.declared.frame.Id.{Id}
 use Rattle.profile.specs.Keys.{are_tables, wrong_units}
-use Rattle.profile.specs.Profile.{ProfileValue, both, unless}
+use Rattle.profile.specs.Profile.{ProfileValue, all_of, unless}
 use Rattle.profile.specs.ProfileRules.{item_count}
 use Rattle.profile.specs.UnitKeys.{identifier_of, is_of_bus}
 use Rattle.profile.specs.UnitWrong.{same_name, same_pair}
@@ -182,13 +182,13 @@ profiles_are_read_as_meant frames [] stand distinct few = refl
 profiles_are_read_as_meant frames (one ∷ more) stand distinct few =
     let tables = unit_tables (map (credit_line frames) (one ∷ more)) in
     ap (λ b. unless (option_or (if b then None else wrong_units None) None)
-    (both (Ok []) (if nat_lt 64 (item_count tables) then Err many_units else units_behind tables (Ok []))))
+    (all_of (Ok []) (Ok []) (if nat_lt 64 (item_count tables) then Err many_units else units_behind tables (Ok []))))
     (tables-are frames (map (credit_line frames) (one ∷ more)))
-    ∙ ap (λ b. both (Ok []) (if b then Err many_units else units_behind tables (Ok [])))
+    ∙ ap (λ b. all_of (Ok []) (Ok []) (if b then Err many_units else units_behind tables (Ok [])))
     (few-enough frames (item_count tables) (omega (
       arith,
       few,
       tables-count frames (map (credit_line frames) (one ∷ more)),
       mapped-length frames (one ∷ more),
     )))
-    ∙ ap (both (Ok [])) (all-behind frames [] (one ∷ more) tt stand (nothing-earlier frames (one ∷ more)) distinct (omega (arith, few)))
+    ∙ ap (all_of (Ok []) (Ok [])) (all-behind frames [] (one ∷ more) tt stand (nothing-earlier frames (one ∷ more)) distinct (omega (arith, few)))

@@ -62,18 +62,18 @@ abbrev pub UnitsAreReadAsMeant : Type 0
 UnitsAreReadAsMeant = (frames : List FrameValue) (found : FoundUnit) → IsUnitOfBus frames found
     → unit_said (unit_table (credit_line frames found)) ≡ Ok (unit_meant frames found)
 
--- the document of up to 64 units, of which no two have one identifier, is a profile without rules that has just these
+-- the document of up to 64 units, of which no two have one identifier, is a profile without rules and names that has just these
 abbrev pub ProfilesAreReadAsMeant : Type 0
 ProfilesAreReadAsMeant = (frames : List FrameValue) (units : List FoundUnit) → AllByRecursion (IsUnitOfBus frames) units
     → IsDistinct is_same (ids_of units) → length units ≤ 64
-    → profile_of (units_document (map (credit_line frames) units)) ≡ Ok (record { rules = []; units = map (unit_meant frames) units })
+    → profile_of (units_document (map (credit_line frames) units)) ≡ Ok (record { rules = []; names = []; units = map (unit_meant frames) units })
 
--- The first 64 of these lines are those of units whose document is a profile of just these, without rules.
+-- The first 64 of these lines are those of units whose document is a profile of just these, without rules and names.
 pub record AreReadBack (frames : List FrameValue) (lines : List CreditLine) : Type 0 where
   pub units : List FoundUnit
   pub found : AllByRecursion (IsFoundUnit frames) units
   pub told : take 64 lines ≡ map (credit_line frames) units
-  pub read : profile_of (units_document (take 64 lines)) ≡ Ok (record { rules = []; units = map (unit_meant frames) units })
+  pub read : profile_of (units_document (take 64 lines)) ≡ Ok (record { rules = []; names = []; units = map (unit_meant frames) units })
 
 -- the lines of a log are read back, where a bus carries the identifiers of its units and of their testers
 abbrev pub LinesAreReadBack : Type 0

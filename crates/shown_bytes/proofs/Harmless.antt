@@ -10,7 +10,7 @@ use Rattle.shown_bytes.specs.LogNames.{name_byte, name_text, plain_byte, numbere
 use Rattle.shown_bytes.specs.Laws.{is_escaped, is_harmless, LettersAreHarmless, NameIsHarmless}
 use Rattle.shown_bytes.specs.Letters.{is_mark, is_within, shown_byte}
 
-abbrev AreHarmless : List ℕ → Type 0
+abbrev pub AreHarmless : List ℕ → Type 0
 AreHarmless = AllByRecursion (λ b. is_harmless b ≡ true)
 
 digit_harmless : (d : ℕ) → d < 16 → is_harmless (digit d) ≡ true
@@ -27,7 +27,7 @@ plain_harmless b less more double single =
       | inr e ↦ rw e (numbered_harmless b)
     ]
 
-byte_harmless : (b : ℕ) → AreHarmless (name_byte b)
+pub byte_harmless : (b : ℕ) → AreHarmless (name_byte b)
 byte_harmless b =
     elim (cases_Bool (b == 38)) [
       | inl e ↦ rw e (refl, (refl, (refl, (refl, (refl, tt)))))

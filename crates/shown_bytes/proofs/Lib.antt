@@ -4,3 +4,4 @@ mod CodesBehind
 mod WordPlaces
 mod ListedBytes
 mod Harmless
+mod HarmlessNames

@@ -3,5 +3,6 @@ pub mod StandardNames
 pub mod TroubleCodes
 pub mod Data
 pub mod LogNames
+pub mod Called
 pub mod Laws
 pub mod proving

@@ -21,7 +21,7 @@ impl<'a> Part for Name<'a> {
 
 /// A byte of a name: a sign that means something in HTML by its name there.
 #[derive(Clone, Copy)]
-struct NameByte(u8);
+pub(crate) struct NameByte(pub u8);
 
 impl Part for NameByte {
     ghost use Rattle.shown_bytes.specs.LogNames.{name_byte};

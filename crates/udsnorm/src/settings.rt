@@ -148,7 +148,11 @@ fn of_choice(
     ensures { IsOfChoice file.entry.now (rows_of (found_of found.now)) (profile_value profile)
         (chosen_of (map unit_value profile.units.items) (first_of (codes "only") (rows_of (found_of found.now)))) result }
 {
-    let Profile { rules, units } = profile;
+    let Profile {
+        rules,
+        names: _,
+        units,
+    } = profile;
     let only = text_of(found, ONLY);
     match chosen(units.as_slice(), bytes_of(only)) {
         Ok(sides) => under_rules(rules, of_sides(sides, found)),

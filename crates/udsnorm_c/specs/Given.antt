@@ -76,7 +76,7 @@ ConfiguresProfile given profile result = ConfiguresChosen given profile (chosen_
 
 -- The profile that a text is, by what it says as TOML. No bytes are one that asks for nothing.
 abbrev pub IsProfile : List ℕ → ProfileValue → Type 0
-IsProfile [] profile = profile ≡ record { rules = []; units = [] }
+IsProfile [] profile = profile ≡ record { rules = []; names = []; units = [] }
 IsProfile (byte ∷ rest) profile = IsReadable (byte ∷ rest) × (asked_by (byte ∷ rest) ≡ Some (Ok profile))
 
 -- What is told of a text that is no profile, or that memory is refused which it wants. No bytes are one, which wants none.

@@ -8,6 +8,7 @@ use crate::answer::{UdsnormAnswer, memory_answer, profile_answer, refusal_of};
 use crate::room::put_front;
 use crate::sides::{USUAL_TESTER, USUAL_UNIT, identifier};
 use asked_profile::{AskedFault, ChoiceFault, UnitNames, WrongProfile, chosen, profile_in};
+use bench_names::BenchNames;
 use can_log::Id;
 use line_text::{Clipped, line_in};
 use profile::{ControlUnit, Profile};
@@ -70,10 +71,11 @@ pub(crate) fn config_given(alloc: Global, given: Given<'_>) -> Result<Config, No
 
 /// The profile that asks for nothing.
 fn no_profile(alloc: Global) -> Profile
-    ensures { profile_value result ≡ record { rules = []; units = [] } }
+    ensures { profile_value result ≡ record { rules = []; names = []; units = [] } }
 {
     Profile {
         rules: Rules::none(),
+        names: BenchNames::none(alloc),
         units: Vec::new(alloc),
     }
 }
@@ -82,7 +84,11 @@ fn no_profile(alloc: Global) -> Profile
 fn config_under(alloc: Global, given: Given<'_>, profile: Profile) -> Result<Config, NoConfig>
     ensures { ConfiguresProfile (given_value given.entry) (profile_value profile) result }
 {
-    let Profile { rules, units } = profile;
+    let Profile {
+        rules,
+        names: _,
+        units,
+    } = profile;
     let only = name_given(given.only);
     match chosen(units.as_slice(), only) {
         Ok(None) => {
