@@ -37,21 +37,26 @@ behind_behind [] two three first second = absurd (false≢true first)
 behind_behind (a ∷ one) [] three first second = absurd (false≢true second)
 behind_behind (a ∷ one) (b ∷ two) [] first second = refl
 behind_behind (a ∷ one) (b ∷ two) (c ∷ three) first second =
-    by (behind_by a one b two first) (behind_by b two c three second) where
-      by : IsBehindBy a one b two → IsBehindBy b two c three → is_behind (a ∷ one) (c ∷ three) ≡ true
-      by (is_greater more) (is_greater less) = greater_behind a one c three (omega arith)
-      by (is_greater more) (is_later same rest) = greater_behind a one c three (omega arith)
-      by (is_later same rest) (is_greater less) = greater_behind a one c three (omega arith)
-      by (is_later same rest) (is_later again more) = later_behind a one c three (same ∙ again) (behind_behind one two three rest more)
+    by (behind_behind one two three) (behind_by a one b two first) (behind_by b two c three second) where
+      by : (is_behind one two ≡ true → is_behind two three ≡ true → is_behind one three ≡ true) → IsBehindBy a one b two → IsBehindBy b two c three
+          → is_behind (a ∷ one) (c ∷ three) ≡ true
+      by rest (is_greater more) (is_greater less) = greater_behind a one c three (omega arith)
+      by rest (is_greater more) (is_later same later) = greater_behind a one c three (omega arith)
+      by rest (is_later same later) (is_greater less) = greater_behind a one c three (omega arith)
+      by rest (is_later same later) (is_later again more) = later_behind a one c three (same ∙ again) (rest later more)
+
+greater_differs : (byte first : ℕ) → first < byte → (byte == first) ≡ false
+greater_differs byte first more = grind (arith, nat_tests)
 
 -- what begins a message doesn't come behind it
 pub behind_begins_none : (prefix message : List ℕ) → is_behind prefix message ≡ true → begins_with prefix message ≡ false
 behind_begins_none [] message behind = absurd (false≢true behind)
 behind_begins_none (byte ∷ prefix) [] behind = refl
-behind_begins_none (byte ∷ prefix) (first ∷ message) behind = by (behind_by byte prefix first message behind) where
-  by : IsBehindBy byte prefix first message → begins_with (byte ∷ prefix) (first ∷ message) ≡ false
-  by (is_greater more) = (let other : (byte == first) ≡ false = grind (arith, nat_tests) in rw other refl)
-  by (is_later same rest) = (let none = behind_begins_none prefix message rest in rw (eq-eqb byte first same, none) refl)
+behind_begins_none (byte ∷ prefix) (first ∷ message) behind = by (behind_begins_none prefix message) (behind_by byte prefix first message behind) where
+  by : (is_behind prefix message ≡ true → begins_with prefix message ≡ false) → IsBehindBy byte prefix first message
+      → begins_with (byte ∷ prefix) (first ∷ message) ≡ false
+  by rest (is_greater more) = rw (greater_differs byte first more) refl
+  by rest (is_later same later) = rw (eq-eqb byte first same, rest later) refl
 
 -- what comes behind the beginning of a message, and not behind the message, has this beginning, too
 pub begins_between : (prefix other message : List ℕ) → begins_with prefix message ≡ true → is_behind other prefix ≡ true → is_behind other message ≡ false
@@ -62,13 +67,14 @@ begins_between (byte ∷ prefix) (b ∷ other) [] begins behind not_behind = abs
 begins_between (byte ∷ prefix) (b ∷ other) (first ∷ message) begins behind not_behind =
     let parts = and_parts (byte == first) (begins_with prefix message) begins in
     let same = eqb-true byte first parts.0 in
-    by same parts.1 (behind_by b other byte prefix behind) where
-      by : byte ≡ first → begins_with prefix message ≡ true → IsBehindBy b other byte prefix → begins_with (byte ∷ prefix) (b ∷ other) ≡ true
-      by same rest (is_greater more) = absurd (false≢true (sym not_behind ∙ greater_behind b other first message (omega (arith, same))))
-      by same rest (is_later equal later) =
+    by (begins_between prefix other message parts.1) same (behind_by b other byte prefix behind) where
+      by : (is_behind other prefix ≡ true → is_behind other message ≡ false → begins_with prefix other ≡ true) → byte ≡ first → IsBehindBy b other byte prefix
+          → begins_with (byte ∷ prefix) (b ∷ other) ≡ true
+      by rest same (is_greater more) = absurd (false≢true (sym not_behind ∙ greater_behind b other first message (omega (arith, same))))
+      by rest same (is_later equal later) =
           elim (cases_Bool (is_behind other message)) [
             | inl behind_too ↦ absurd (false≢true (sym not_behind ∙ later_behind b other first message (equal ∙ same) behind_too))
-            | inr no ↦ (let more = begins_between prefix other message rest later no in rw (eq-eqb byte b (sym equal), more) refl)
+            | inr no ↦ rw (eq-eqb byte b (sym equal), rest later no) refl
           ]
 
 -- of two prefixes that are apart one comes behind the other

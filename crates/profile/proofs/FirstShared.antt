@@ -70,25 +70,29 @@ keys_or other wrong = other
 shared_told : (before : List (List ℕ)) (members : Members) (earlier later : List ℕ) → ShareNone before → first_shared before members ≡ Some (shared_name earlier later)
     → IsFirstShared (before ++ keys_of members) earlier later
 shared_told before no_members earlier later none is = absurd (none-some _ is)
-shared_told before (member key value rest) earlier later none is = by_found (sharing_key before key) refl (is) where
-  by_found : (found : Option (List ℕ)) → sharing_key before key ≡ found
-      → option_or (option_map (λ one. shared_name one key) found) (first_shared (before ++ key ∷ []) rest) ≡ Some (shared_name earlier later)
-      → IsFirstShared (before ++ key ∷ keys_of rest) earlier later
-  by_found (Some one) found told =
-      let same = ap (keys_or (earlier, later)) told in
-      let first = found_first before key one found in
-      subst (λ (two : List ℕ × List ℕ). IsFirstShared (before ++ key ∷ keys_of rest) two.0 two.1) same (record {
-        front = first.front;
-        middle = first.middle;
-        behind = keys_of rest;
-        in_order = ap (λ l. l ++ key ∷ keys_of rest) first.in_order;
-        apart = subst ShareNone first.in_order none;
-        first = first.first;
-        shares = first.shares;
-      })
-  by_found None found told =
-      subst (λ keys. IsFirstShared keys earlier later) (append_assoc before (key ∷ []) (keys_of rest))
-      (shared_told (before ++ key ∷ []) rest earlier later (one_more before key none (all_silent before key found)) told)
+shared_told before (member key value rest) earlier later none is =
+    by_found (sharing_key before key) (shared_told (before ++ key ∷ []) rest earlier later) refl is where
+      by_found : (found : Option (List ℕ))
+          → (ShareNone (before ++ key ∷ []) → first_shared (before ++ key ∷ []) rest ≡ Some (shared_name earlier later)
+          → IsFirstShared ((before ++ key ∷ []) ++ keys_of rest) earlier later)
+          → sharing_key before key ≡ found
+          → option_or (option_map (λ one. shared_name one key) found) (first_shared (before ++ key ∷ []) rest) ≡ Some (shared_name earlier later)
+          → IsFirstShared (before ++ key ∷ keys_of rest) earlier later
+      by_found (Some one) more found told =
+          let same = ap (keys_or (earlier, later)) told in
+          let first = found_first before key one found in
+          subst (λ (two : List ℕ × List ℕ). IsFirstShared (before ++ key ∷ keys_of rest) two.0 two.1) same (record {
+            front = first.front;
+            middle = first.middle;
+            behind = keys_of rest;
+            in_order = ap (λ l. l ++ key ∷ keys_of rest) first.in_order;
+            apart = subst ShareNone first.in_order none;
+            first = first.first;
+            shares = first.shares;
+          })
+      by_found None more found told =
+          subst (λ keys. IsFirstShared keys earlier later) (append_assoc before (key ∷ []) (keys_of rest))
+          (more (one_more before key none (all_silent before key found)) told)
 
 -- what is wrong with names that are read, or other
 abbrev wrong_or : WrongValue → Result (List NameValue) WrongValue → WrongValue

@@ -63,7 +63,6 @@ all_said earlier names no_members right message = refl
 all_said earlier names (member key value rest) right message =
     let next = next_name earlier names key value rest right in
     let name = next.name in
-    let stands = has_prefix (prefix_in key) message in
     let one = inserted_stands_beside names name next.can.apart message ∙ called key value name (name_of names message) message next.is_said.spelled next.is_said.text in
     ap (λ said. name_of (names_among (among names said) rest) message) next.is_said.said
     ∙ all_said (earlier ++ key ∷ []) (inserted names name) rest next.right message
