@@ -24,7 +24,7 @@
 - each decision of docs/DECISIONS.md says what would change it;
 - what introduces the program or the library has the words by which somebody looks for such a tool;
 - each fault displays the line that the program tells of it, as the page for callers of udsnorm says;
-- the number of the version stands in the program's source once, and is that of the file VERSION;
+- the number of the version stands in the source of the command line once, and is that of the file VERSION;
 - what a proof cites of the proofs of a lower crate stands in its module Promises;
 - nothing in the project is a symbolic link, what is built included: the gate, which runs last, would take none.
 
@@ -58,6 +58,8 @@ ARCHITECTURE = DOCS / "architecture.md"
 DEFINITIONS = DOCS / "definitions.md"
 PROVED = DOCS / "proved.md"
 PROGRAM = "udsnorm"
+# What its words ask for.
+WORDS = "command_line"
 LIBRARY = "udsnorm_c"
 SVG = "{http://www.w3.org/2000/svg}"
 
@@ -370,7 +372,7 @@ TAKEN_AWAY = [
     ("a run over a log may tell nothing as it comes", "udsnorm/specs/Run.antt", r"  pub eager : .*\n.*\n", ""),
     ("a run over a log may have any status", "udsnorm/specs/Run.antt", r"  pub status_is : status ≡ status_of_run strict outcome\n", ""),
     ("the right log may be read after a fault of the left", "udsnorm/specs/Run.antt", r"  pub unread : .*\n", ""),
-    ("an engine need not tell as the log comes", "udsnorm/specs/Commands.antt", r"^(writes_eagerly_of \(runs script needs\) .*) = .*", r"\1 = ⊤"),
+    ("an engine need not tell as the log comes", "udsnorm/specs/Engines.antt", r"^(writes_eagerly_of \(runs script needs\) .*) = .*", r"\1 = ⊤"),
     ("a log may be that of another file", "udsnorm/specs/Profiled.antt", r"  pub by_name : .*\n", ""),
     ("the right log may have been read", "udsnorm/specs/Asked.antt", r"  pub other_unread : .*\n", ""),
     ("what is done with status 0 may be anything", "udsnorm/specs/Asked.antt", r"(?:^IsDoneBy .*\n(?:  .*\n)*)+", "IsDoneBy says file asked log before after = ⊤\n"),
@@ -547,9 +549,9 @@ def lines_of_faults(cases):
 
 def version_of_the_source(cases):
     version = (TOP / "VERSION").read_text().rstrip("\n")
-    texts = [path.read_text() for path in (TOP / "crates" / PROGRAM / "src").glob("*.rt")]
+    texts = [path.read_text() for crate in (WORDS, PROGRAM) for path in (TOP / "crates" / crate / "src").glob("*.rt")]
     told = [number for text in texts for number in re.findall(r'"(\d+\.\d+\.\d+)"', text)]
-    cases.report("the program's source has the number of the version, once", [] if told == [version] else [f"it has {told}, not {version}"])
+    cases.report("the source of the command line has the number of the version, once", [] if told == [version] else [f"it has {told}, not {version}"])
 
 
 def lower_proofs(cases):

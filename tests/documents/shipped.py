@@ -26,7 +26,7 @@ from tables import EXAMPLES
 
 TOP = Path(__file__).resolve().parents[2]
 MANUAL = TOP / "packaging" / "manual"
-TABLE = TOP / "crates" / "udsnorm" / "src" / "commands.rt"
+TABLE = TOP / "crates" / "command_line" / "src" / "commands.rt"
 COMPLETIONS = TOP / "share" / "completions"
 
 # How each shell is asked what it offers for words, of which the last is not complete. The completion of zsh describes it to

@@ -10,12 +10,21 @@ OTHERS = {0x24: [1, 2], 0x2E: [1, 2], 0x2F: [1, 2], 0x36: [1], 0x38: [1]}
 # The sub-functions of RoutineControl that tell a routine.
 OF_ROUTINES = {1, 2, 3}
 
+# The service ReadDataByIdentifier.
+IDENTIFIERS = 0x22
+
+# So many bytes of a request are kept until its answer comes, where a log is told as it comes.
+MOST_ASKED = 4095
+
+# A page tells so many bytes of what was asked at the most.
+MOST_SHOWN = 32
+
 
 def is_other(request, answer):
     """Whether a positive answer is other than was asked: both have all the bytes that are repeated, and these differ."""
     if not request or not answer or request[0] is None or answer[0] != request[0] + 0x40 or answer[0] == 0x7F:
         return False
-    if request[0] == 0x22:
+    if request[0] == IDENTIFIERS:
         return is_another_identifier(request, answer)
     repeated = places(request, answer)
     if len(request) <= max(repeated, default=0) or len(answer) <= max(repeated, default=0):
@@ -59,3 +68,36 @@ def bytes_told(text):
 def echo_told(request, answer):
     """The member of an object for a request and its answer, both as a line tells them."""
     return {"echo": False} if is_other(bytes_told(request), bytes_told(answer)) else {}
+
+
+def asked_of(request):
+    """What is kept of a request: of one for data identifiers that has more bytes nothing, for an answer may be to any of them."""
+    return [] if request[0] == IDENTIFIERS and len(request) > MOST_ASKED else request[:MOST_ASKED]
+
+
+def echo_told_as_it_comes(request, answer):
+    """The same by what is kept of the request."""
+    return {"echo": False} if is_other(asked_of(bytes_told(request)), bytes_told(answer)) else {}
+
+
+def is_other_on_page(request, answer):
+    """Whether a page tells of a positive answer that it is other than was asked; both are messages, or what masks leave of them."""
+    return is_other(asked_of(cells_of(request)), cells_of(answer))
+
+
+def words_on_page(request, answer):
+    """What a row says of such an answer: what it answers, and what was asked, of data identifiers the first bytes."""
+    if request[0] == IDENTIFIERS:
+        more, at_least = len(request) - MOST_SHOWN, "at least " if getattr(request, "is_cut", False) else ""
+        behind = f" and {at_least}{more} byte{'s' * (more > 1)} more" if more > 0 else ""
+        return spelled(answer[:3]), spelled(request[:MOST_SHOWN]) + behind
+    count = max(places(cells_of(request), cells_of(answer))) + 1
+    return spelled(answer[:count]), spelled(request[:count])
+
+
+def cells_of(message):
+    return bytes_told(message.hex())
+
+
+def spelled(message):
+    return message.hex(" ").upper()

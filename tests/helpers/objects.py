@@ -3,7 +3,7 @@
 import json
 import re
 
-from echoes import echo_told
+from echoes import echo_told, echo_told_as_it_comes
 
 ENDED = re.compile(r"line (\d+): (tester|unit) reception from line (\d+) of (\d+) bytes ended: (.+)")
 DROPPED = re.compile(r"line (\d+): (tester|unit) frame dropped: (.+)")
@@ -46,7 +46,7 @@ def message_objects(lines):
         reply = {}
         if role in ("answer", "pending"):
             asked, request = requests[number]
-            reply = {"after_us": micros(start) - micros(asked), **(echo_told(request, message) if role == "answer" else {})}
+            reply = {"after_us": micros(start) - micros(asked), **(echo_told_as_it_comes(request, message) if role == "answer" else {})}
         item = {"item": int(number), "role": role, "direction": direction, "first_line": int(first), "last_line": int(last)}
         yield {**item, "start": start, "end": end, **reply, "message": message}
 

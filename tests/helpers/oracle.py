@@ -15,7 +15,7 @@ import re
 import sys
 from collections import Counter, namedtuple
 
-from echoes import echo_told
+from echoes import echo_told, echo_told_as_it_comes
 
 TESTER, UNIT = "tester", "unit"
 OTHER = {TESTER: UNIT, UNIT: TESTER}
@@ -625,7 +625,7 @@ def reply_told(role, start, spelled, asked):
     """The members that tell of a reply to this request, which has a time and its bytes as they are told."""
     if role not in ("answer", "pending"):
         return {}
-    echo = echo_told(asked[1], spelled) if role == "answer" else {}
+    echo = echo_told_as_it_comes(asked[1], spelled) if role == "answer" else {}
     return {"after_us": start - asked[0], **echo}
 
 

@@ -14,9 +14,9 @@ from difference_oracle import ADDED, CHANGED, REMOVED, SAME
 
 # How the program ends over two logs and what it tells then; the items of both, where both can be read, and else the letter of the one that
 # can't; and of both whether it is clean, and whether its sides look exchanged; the charts of both, where they differ; what is found of each
-# recording; what is missing of each log, by items; whether something is in front of its first item; and each rule, with of how many messages
-# of each log it spoke.
-Came = namedtuple("Came", "status fault items refused clean exchanged charts recordings losses fronts rules", defaults=(None, None, None, ()))
+# recording; what is missing of each log, by items; whether something is in front of its first item; how long the items of each that waited
+# for their answer did, by their places; and each rule, with of how many messages of each log it spoke.
+Came = namedtuple("Came", "status fault items refused clean exchanged charts recordings losses fronts waited rules", defaults=(None, None, None, None, ()))
 
 # A recording: its state up to the counts, how many items it has, when its first frame was, and how long it is.
 Recording = namedtuple("Recording", "state items first length")
@@ -39,6 +39,9 @@ DATED_FROM = datetime.datetime(1973, 3, 3, 9, 46, 40)
 
 # So many losses of an item are told, and of more rows than so many a page says how many it has.
 TOLD_LOSSES, LARGE_PAGE = 20, 100_000
+
+# An answer took much longer than another where it took more than so many times as long, and at least so many microseconds longer.
+MANY_TIMES, MUCH_LONGER = 2, 50_000
 
 # So many rows before a change and behind it are shown.
 CONTEXT = 3
@@ -71,7 +74,8 @@ def came_of(left, right, limit=oracle.GIBIBYTE, sides=oracle.SIDES, is_strict=Fa
     losses, fronts = [losses_of(log) for log in rows], [begins_with_loss(log) for log in rows]
     told_rules = [report_reader.Rule(profiles.told_rule(rule), tuple(map(str, spoken))) for rule, *spoken in zip(rules, *(profiles.spoken(rules, trace) for trace in frames))]
     clean = [not fault for fault in unclean]
-    return Came(status, "\n".join(told) or None, items, None, clean, exchanged, charts, recordings, losses, fronts, told_rules)
+    waited = [waited_in(log) for log in rows]
+    return Came(status, "\n".join(told) or None, items, None, clean, exchanged, charts, recordings, losses, fronts, waited, told_rules)
 
 
 def recording_of(frames, items, unclean, exchanged):
@@ -151,7 +155,13 @@ def chart_of(frames, rows, item, count, others):
 
 def all_rows(frames, rules):
     """The rows of a log under rules, with those at its end."""
-    return [*report_facts.rows_of(frames, rules), *report_facts.end_rows(frames, rules)] if frames else []
+    rows = [*report_facts.rows_of(frames, rules), *report_facts.end_rows(frames, rules)] if frames else []
+    return list(map(without_echo, rows))
+
+
+def without_echo(row):
+    """A row as the page of two logs has it, which tells of no answer that it is other than was asked."""
+    return row._replace(kind="positive") if isinstance(row, report_facts.Message) and row.kind == report_facts.OTHER else row
 
 
 def numbers_of(rows):
@@ -371,6 +381,55 @@ def lossy_note(came, rows, changes):
     return [f"{place} {who} not clean: {told}"]
 
 
+# --- Answers that took much longer --------------------------------------------------------------------------------------
+
+
+def waited_in(rows):
+    """How many microseconds the items of a log with these rows waited for their answers, by their places. One whose answer began before its
+    request ended did not."""
+    answers = [row for row in rows if isinstance(row, report_facts.Message) and row.kind in report_facts.REPLIES]
+    return {row.item - 1: row.first.micros - row.asked for row in answers if row.first.micros >= row.asked}
+
+
+def longer_rows(came, rows):
+    """Of each log the rows in which its answer took much longer than that of the other one, with how long it took and how long that did."""
+    longer = ([], [])
+    for row in rows:
+        times = [waited.get(place) for waited, place in zip(came.waited, (row.left, row.right))]
+        for side in (0, 1):
+            own, other = times[side], times[1 - side]
+            if None not in times and own > MANY_TIMES * other and own >= other + MUCH_LONGER:
+                longer[side].append((row, own, other))
+    return longer
+
+
+def longer_notes(came, rows):
+    """What is said of the answers that took much longer in a log, if some did: of the first of the slowest ones where it stands, what was asked
+    in A, and both times."""
+    notes = []
+    for side, longer in enumerate(longer_rows(came, rows)):
+        if longer:
+            row, own, other = slowest_row(longer)
+            times = [f"{report_facts.milliseconds(0, micros)} in {log}" for log, micros in zip("AB", (own, other) if side == 0 else (other, own))]
+            counted = "1 answer" if len(longer) == 1 else f"{len(longer)} answers"
+            front = f"{counted} took more than twice as long in {'AB'[side]} as in {'BA'[side]}, and at least 50 ms longer"
+            place = f"A {row.left + 1}, B {row.right + 1} {title_of(came.items[0][row.left])}"
+            notes.append(f"{front}{':' if len(longer) == 1 else '. The slowest:'} {place}, {', '.join(times)}.".replace("&#160;", " "))
+    return notes
+
+
+def slowest_row(longer):
+    slowest = max(own for _, own, _ in longer)
+    return next(found for found in longer if found[1] == slowest)
+
+
+def longer_names(came, rows):
+    """The names of the rows in which an answer took much longer, and those to which the verdict links."""
+    longer = longer_rows(came, rows)
+    names = [f"t{row.left + 1}" for row in rows if any(row == found[0] for side in longer for found in side)]
+    return names, [f"t{slowest_row(side)[0].left + 1}" for side in longer if side]
+
+
 def notes_of(came, rows, changes):
     """What is said below the heading and its sentence."""
     notes = []
@@ -382,7 +441,7 @@ def notes_of(came, rows, changes):
         notes += [] if is_shortest else [f"Perhaps not the shortest: more than {bound} items would be removed or added."]
     if len(rows) > LARGE_PAGE:
         notes.append(f"This page has {len(rows)} rows. udsnorm diff has the differences alone, and udsnorm list any part of a session.")
-    return notes
+    return notes + longer_notes(came, rows)
 
 
 def look_of(came):

@@ -14,6 +14,13 @@ LISTED = 50
 # A message of a log in a line of its own, where a mask speaks of it.
 MASKED_LINES = re.compile(r'<div><span class="who">([AB])</span> <code>([^<]*)</code>')
 
+# The name of a row in which an answer took much longer, and what the help says of times where one did, or none.
+LONGER_NAME = re.compile(r'^<span id="(t\d+)"></span>')
+TIMES = {
+    True: "Times are compared in the verdict alone: those of answers <i>after</i> their requests, but for any with a minus.",
+    False: "Times are not compared.",
+}
+
 # The names of the standards behind the bytes of a message.
 NAMES = re.compile(r"</(?:code|samp|details|i)>((?: <i>\([A-Za-z][^<]*\)</i>)+)")
 
@@ -49,6 +56,7 @@ def told_otherwise(page, came):
         *chart_faults(read, came),
         *loss_faults(read, came),
         *unclean_faults(read, came, rows, changes),
+        *longer_faults(read, came, rows),
     ]
 
 
@@ -223,6 +231,17 @@ def unclean_faults(read, came, rows, changes):
     wrong = [] if told == notes or not told else [f"of the differences it is said that {told}, not {notes}"]
     first = [read.first.note] if read.first else []
     return wrong + ([] if first == notes[:1] else [f"of the first difference it is said that {first}, not {notes[:1]}"])
+
+
+def longer_faults(read, came, rows):
+    """Whether each row has its name in which an answer took much longer, the verdict links to those of the slowest, and the help says so."""
+    names, linked = pair_facts.longer_names(came, rows)
+    told = [name for row in read.rows for name in LONGER_NAME.findall(row.text)]
+    wrong = [] if told == names else [f"the rows with much longer answers are {told}, not {names}"]
+    places = [f"t{row.left}" for row in read.rows if LONGER_NAME.search(row.text)]
+    wrong += [] if places == told else [f"the rows {places} are called {told}"]
+    wrong += [] if read.linked == linked else [f"the verdict links to {read.linked}, not {linked}"]
+    return wrong + ([] if read.times == TIMES[bool(names)] else [f"the help says {read.times!r}"])
 
 
 def loss_faults(read, came):

@@ -10,8 +10,9 @@ from collections import namedtuple
 import report_reader
 
 # The rules, the heading, the sentence below it, the notes behind that, both recordings, the lines of the list, what the first difference is said to
-# be, the charts of both logs there, what is missing of a log without an item, and the rows of the table of items.
-Page = namedtuple("Page", "rules look heading same_line notes recordings listed first charts alone rows folds identifiers targets")
+# be, the charts of both logs there, what is missing of a log without an item, and the rows of the table of items; the names to which the verdict
+# links, beside the first difference; and what the help says of times.
+Page = namedtuple("Page", "rules look heading same_line notes recordings listed first charts alone rows folds identifiers targets linked times")
 
 # A recording: its state, how many items it has, when its first frame was, and how long it is.
 Recording = namedtuple("Recording", "state items first length")
@@ -62,6 +63,7 @@ CHART_END = re.compile(
 )
 # The groups of rows of a chart: of items that are the same in both logs, and of others.
 BODIES = {"<tbody>": False, '<tbody class="df">': True}
+TIMES = re.compile(r"An item has the time of its first message\. (Times .*?\.) Times are in seconds ")
 TAG = re.compile(r"<[^>]*>")
 FOLD = re.compile(
     r'<details class="b same(?: long)?">\n<summary><b>(\d+) items?, the same</b> <i>A&#160;(\d+)(?:&#8211;(\d+))?, B&#160;(\d+)(?:&#8211;(\d+))?</i>'
@@ -236,4 +238,6 @@ def read(page):
         [fold_of(match) for match in FOLD.finditer(page)],
         re.findall(r' id="(\w+)"', page),
         re.findall(r' href="#(\w+)"', page),
+        [name for name in re.findall(r' href="#(\w+)"', verdict[4]) if name != "difference"],
+        TIMES.search(page)[1],
     )

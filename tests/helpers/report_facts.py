@@ -12,6 +12,7 @@ from collections import Counter, namedtuple
 from pathlib import Path
 
 import causes
+import echoes
 import oracle
 import profiles
 import standard_names
@@ -31,8 +32,8 @@ STANDARD_INPUT = b"standard input"
 # --- What the rows tell -----------------------------------------------------------------------------------------------
 
 # A message, as report_reader.py calls its kind: the frames that it begins and ends with, how many carry it, when its request was
-# complete, if it replies to one, and whether it went to all units.
-Message = namedtuple("Message", "kind side item first last frames asked data is_functional")
+# complete, if it replies to one, whether it went to all units, and its request, if it is an answer.
+Message = namedtuple("Message", "kind side item first last frames asked data is_functional request")
 # An item without an answer, as report_reader.py calls the kind of its row.
 NoAnswer = namedtuple("NoAnswer", "item kind")
 # A frame that is dropped, and whether the row before is named by the same line.
@@ -42,7 +43,8 @@ Ended = namedtuple("Ended", "entry side begun cause")
 # The first frame of a message that the log ends in.
 Unfinished = namedtuple("Unfinished", "side begun")
 
-REPLIES = ("positive", "negative")
+OTHER = "other than asked"
+REPLIES = ("positive", OTHER, "negative")
 NONE_OF_ALL = "no answer (all units)"
 REQUEST = "request"
 
@@ -78,9 +80,10 @@ def messages_of(frames, rules):
     listed = [(oracle.SENDERS[frames[p].direction], message) for p, message in made if message is not None]
     parts = oracle.parts_of(listed)
     asked = {item: frames[p].micros for p, (item, role) in zip(ends, parts) if role == REQUEST}
+    requests = {item: data for (_, data), (item, role) in zip(listed, parts) if role == REQUEST}
     return [
         Message(
-            kind=kind_of(role, side, data),
+            kind=kind_of(role, side, data, requests.get(item)),
             side=side,
             item=item,
             first=frames[oracle.first_position(frames, p)],
@@ -89,14 +92,15 @@ def messages_of(frames, rules):
             asked=asked[item] if role in ("answer", "pending") else None,
             data=data,
             is_functional=frames[p].direction == oracle.FUNCTIONAL,
+            request=requests[item] if role == "answer" else None,
         )
         for p, (side, data), (item, role) in zip(ends, listed, parts)
     ]
 
 
-def kind_of(role, side, data):
+def kind_of(role, side, data, request):
     if role == "answer":
-        return "negative" if data[0] == 0x7F else "positive"
+        return "negative" if data[0] == 0x7F else OTHER if echoes.is_other_on_page(request, data) else "positive"
     return "keep-alive" if role == "stray" and (side, data) == (TESTER, b"\x3E\x80") else role
 
 
@@ -167,6 +171,8 @@ def said_of_kind(row):
     match row.kind:
         case "request":
             return {"service": oracle.SERVICES.get(row.data[0], f"service_{row.data[0]:02X}")}
+        case "other than asked":
+            return dict(zip(("answers", "asked"), echoes.words_on_page(row.request, row.data)))
         case "negative":
             return {"code": standard_names.code_told(row.data[2])}
         case "stray":
@@ -296,13 +302,13 @@ def block_begin(origin, row):
 # --- The verdict ------------------------------------------------------------------------------------------------------
 
 # What needs a look, in this order, and how many links there are at most to each.
-LOOKS = ("dropped", "ended", "unfinished", "negative", "no answer", "stray")
+LOOKS = ("dropped", "ended", "unfinished", "negative", OTHER, "no answer", "stray")
 MOST_LINKS = 10
 
 # All counts, as they are told. Behind the first four each is of the rows of its kind.
 COUNTS = [
-    "lines", "frames", "messages", "left out", "requests", "positive", "negative", "no answer", NONE_OF_ALL, "silent", "pending", "keep-alive",
-    "stray", "dropped", "ended", "unfinished",
+    "lines", "frames", "messages", "left out", "requests", "positive", "negative", "no answer", NONE_OF_ALL, "silent", OTHER, "pending",
+    "keep-alive", "stray", "dropped", "ended", "unfinished",
 ]
 LOSSES = ("dropped", "ended", "unfinished")
 
@@ -322,6 +328,7 @@ def counts_of(lines, frames, rows):
     counts = Counter(map(row_kind, rows))
     messages = len(oracle.messages(frames))
     counts.update({"lines": len(lines), "frames": len(frames), "messages": messages})
+    counts["positive"] += counts[OTHER]
     counts["left out"] = messages - sum(isinstance(row, Message) for row in rows)
     return counts
 
@@ -352,7 +359,7 @@ def link_words(row):
 
 
 def counts_told(counts):
-    told = [name for name in COUNTS if name not in ("left out", NONE_OF_ALL) or counts[name]]
+    told = [name for name in COUNTS if name not in ("left out", NONE_OF_ALL, OTHER) or counts[name]]
     return [Count(name=name, number=f"{counts[name]}", mark=count_mark(name, counts[name])) for name in told]
 
 
@@ -424,7 +431,8 @@ def is_cut(log):
 def answers_meant(counts, rules):
     if not counts["requests"]:
         return []
-    return [sentence_under(rules, "unanswered" if counts["negative"] or counts["no answer"] else "answered")]
+    other = [sentence_under(rules, "other")] if counts[OTHER] else []
+    return [sentence_under(rules, "unanswered" if counts["negative"] or counts["no answer"] else "answered"), *other]
 
 
 def sentence_under(rules, name):
@@ -459,6 +467,7 @@ def facts_of(log, name=STANDARD_INPUT, refused=None, sides=SIDES, limit=GIBIBYTE
             span=span_told(frames),
             slowest=slowest_told(rows),
         ),
+        helps_on_answers=any(row_kind(row) in REPLIES for row in rows),
     )
 
 
@@ -515,6 +524,7 @@ def fact_differences(came, want):
         *first_difference("block", list(map(shape_of, came.blocks)), list(map(shape_of, want.blocks))),
         *first_difference("refusal", [came.refused], [want.refused]),
         *first_difference("rule", came.rules, want.rules),
+        *first_difference("words on answers", [came.helps_on_answers], [want.helps_on_answers]),
         *(text for name in Verdict._fields for text in verdict_difference(name, came.verdict, want.verdict)),
     ]
 

@@ -14,9 +14,9 @@ STYLE_MARK, BLOCKS_MARK = "[the style]\n", "[the open blocks]\n"
 
 # --- What a page tells ------------------------------------------------------------------------------------------------
 
-# The name of the log, which stands twice, the identifiers, the blocks of rows, why the log is refused, if it is, the rules, and the
-# verdict.
-Facts = namedtuple("Facts", "names sides blocks refused rules verdict")
+# The name of the log, which stands twice, the identifiers, the blocks of rows, why the log is refused, if it is, the rules, the
+# verdict, and whether the help has words on answers.
+Facts = namedtuple("Facts", "names sides blocks refused rules verdict helps_on_answers")
 
 # A rule, and of how many messages of each log it spoke.
 Rule = namedtuple("Rule", "text counts")
@@ -69,6 +69,7 @@ NAMES = r"(?P<names>(?: <i>\([A-Za-z][^<]*\)</i>)*)"
 DATA = rf"<code>(?P<shown>{BYTES})</code>(?: <samp>(?P<letters>[^<]+)</samp>|{FOLDED}| <i>(?P<hidden>\d+) bytes more, not shown</i>)?{NAMES}{NOTE}"
 # A message of the tester that went to all units.
 TO_ALL, BRIEF_TO_ALL = "(?:<i>(?P<functional>functional)</i> )?", "(?:(?P<functional>functional) )?"
+MORE = r"(?: and (?:at least )?\d+ bytes? more)?"
 BRIEF_DATA = rf"(?P<shown>{BYTES})(?: and (?P<hidden>(?:at least )?\d+) (?:(?<= 1 )byte|(?<! 1 )bytes) more)?"
 
 # Of each kind of row how it looks, how its arrow ends, and what it says. `words` are no facts.
@@ -76,6 +77,7 @@ Kind = namedtuple("Kind", "look end form")
 KINDS = {
     "request": Kind("q", "", rf"<b>(?P<service>\w+)</b> <i>request</i> {TO_ALL}{DATA}"),
     "positive": Kind("ok", "", rf"<b>positive</b> {DATA}"),
+    "other than asked": Kind("s", "", rf"<b>positive</b> <em>answers (?P<answers>{BYTES}), asked was (?P<asked>{BYTES}{MORE})</em> {DATA}"),
     "negative": Kind("n", "", rf"<b>negative</b> <em>(?P<code>\w+(?: [0-9A-F]{{2}})?)</em> {DATA}"),
     "pending": Kind("p", "", rf"<b>pending</b> {DATA}"),
     "keep-alive": Kind("p", "", rf"<b>keep-alive</b> {TO_ALL}{DATA}"),
@@ -95,7 +97,7 @@ BRIEF_KINDS = {
     "silent": Kind("p", "", r"silent: item (?P<to>\d+) (?P<words>[^<]+)"),
     "no answer (all units)": Kind("p", "", r"no answer to item (?P<to>\d+), which went to all units"),
 }
-MESSAGES = ("request", "positive", "negative", "pending", "keep-alive", "stray")
+MESSAGES = ("request", "positive", "other than asked", "negative", "pending", "keep-alive", "stray")
 SIDES = {"t": "tester", "u": "unit"}
 
 
@@ -179,12 +181,14 @@ SENTENCES = {
     "answered_of_what_is_left": r"Of what the rules leave, no answer is negative[^.]+\.",
     "unanswered": r"Not every request [^.]+\.",
     "unanswered_of_what_is_left": r"Of what the rules leave, not every request [^.]+\.",
+    "other": r"Not every answer [^.]+\.",
+    "other_of_what_is_left": r"Of what the rules leave, not every answer [^.]+\.",
     "before": r"Below is [^.]+\.",
 }
 SENTENCE = re.compile("(?:" + "|".join(f"(?P<{name}>{form})" for name, form in SENTENCES.items()) + ")(?: (?!$)|$)")
 LOOKS = {
     "dropped frames": "dropped", "ended early": "ended", "unfinished": "unfinished", "negative answers": "negative",
-    "without an answer": "no answer", "strays": "stray",
+    "other than asked": "other than asked", "without an answer": "no answer", "strays": "stray",
 }
 LOOK = re.compile(r'<li>(?P<words>[^<]+) <b>(?P<number>\d+)</b>: (?P<links>.*?)(?: and (?P<more>\d+) more)?\n')
 LINK = re.compile(r'<a href="#(\w+)">([^<]*)</a>(?:, (?=<)|$)')
@@ -208,6 +212,7 @@ def read(page):
         refused=stop_of(parts["stop"], words),
         rules=rules_of(parts["rules"], words),
         verdict=verdict_of(parts["verdict"], words),
+        helps_on_answers="slowest answers" in parts["help"],
     )
     return Read(facts, front["style"], words)
 

@@ -472,8 +472,7 @@ def under_rules(cases):
             cases.report(f"{' '.join(words)} of masked messages", wrong + differences("status", found.status, DONE))
         longest = two_receptions() + b"".join(b"(0.000000) a %b##024%b\n" % (side, b"00" * 11) for side in (b"7E0", b"7E8"))
         cases.case("two of the longest messages", cases.run(["explain"], longest), DONE, counts_line(longest, messages=2))
-        name = "two of the longest messages, of which the request is kept"
-        holds_at_most(cases, ["messages", "--json"], name, longest, RECEPTION_BYTES + 2 * oracle.MESSAGE_LIMIT, DONE)
+        holds_at_most(cases, ["messages", "--json"], "two of the longest messages, of a request and its answer", longest, RECEPTION_BYTES, DONE)
         for job in ["messages", "report"]:
             name = "two of the longest messages, each masked"
             holds_at_most(cases, [job, *profile], name, longest, RECEPTION_BYTES + 2 * oracle.MESSAGE_LIMIT + PROFILE_BYTES, DONE)

@@ -61,26 +61,26 @@ two_are_aligned 18     14    21      -
 """
 
 # How many growths each job has over each log, apart from those of its words: of a job over two logs those over the left one, and
-# those over the right one, and for what stands beside what. `objects` is `messages --json`, which keeps the open request, and
-# `pages` `report` of two logs. A log stands beside vin.log, and where identifiers stand beside it beside its canonical log.
+# those over the right one, and for what stands beside what. `objects` is `messages --json`, which keeps the open request in place,
+# and `pages` `report` of two logs. A log stands beside vin.log, and where identifiers stand beside it beside its canonical log.
 JOB_GROWTHS = """
                                                        normalise  list  watch  explain  messages  objects  find  report  compare   pages
-both-directions                                                3     5      5        3         3        4     5       3      5+4    6+32
-candump-any                                                    0     2      2        0         0        1     6       0      2+4    3+30
-candump-fd                                                     1     3      4        1         1        2     5       1      3+4    5+15
-candump-marks                                                  2     4      4        2         2        3     5       2      4+4    5+14
-extended-identifiers                                           0     2      1        0         0        1     6       0      2+4    3+27
-extended-identifiers --tester 18DA10F1 --unit 18DAF110         2     4      4        2         2        3     -       2      4+4    5+13
-first                                                          0     2      1        0         0        1     1       0      2+4    3+20
-lost-frame                                                     2     4      4        2         2        3     5       2      4+4    6+14
-pending                                                        4     4      6        2         2        3     5       2      4+4    6+15
-refused                                                        0     2      1        0         0        1     1       0      2+0     3+0
-single-frames                                                  0     2      2        0         0        1     5       0      2+4    4+35
-vin-fd-crlf                                                    0     2      1        0         0        1     5       0      2+4    3+13
-vin                                                            2     4      3        2         2        3     5       2      4+4    5+13
-stray                                                          2     2      3        0         0        1     5       0      2+4    3+22
-both                                                           2     4      3        2         2        3     1       2      4+4    5+32
-long                                                           0     -      -        0         0        1     1       0        -       -
+both-directions                                                3     5      5        3         3        3     5       3      5+4    6+32
+candump-any                                                    0     2      2        0         0        0     6       0      2+4    3+30
+candump-fd                                                     1     3      4        1         1        1     5       1      3+4    5+15
+candump-marks                                                  2     4      4        2         2        2     5       2      4+4    5+14
+extended-identifiers                                           0     2      1        0         0        0     6       0      2+4    3+27
+extended-identifiers --tester 18DA10F1 --unit 18DAF110         2     4      4        2         2        2     -       2      4+4    5+13
+first                                                          0     2      1        0         0        0     1       0      2+4    3+20
+lost-frame                                                     2     4      4        2         2        2     5       2      4+4    6+14
+pending                                                        4     4      6        2         2        2     5       2      4+4    6+15
+refused                                                        0     2      1        0         0        0     1       0      2+0     3+0
+single-frames                                                  0     2      2        0         0        0     5       0      2+4    4+35
+vin-fd-crlf                                                    0     2      1        0         0        0     5       0      2+4    3+13
+vin                                                            2     4      3        2         2        2     5       2      4+4    5+13
+stray                                                          2     2      3        0         0        0     5       0      2+4    3+22
+both                                                           2     4      3        2         2        2     1       2      4+4    5+32
+long                                                           0     -      -        0         0        0     1       0        -       -
 """
 
 # The columns of jobs over two logs, with their commands; and of a job with an option.

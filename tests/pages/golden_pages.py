@@ -38,10 +38,12 @@ PAGES = {
     "refused_by_limit": ["--limit", "76"],
     "trouble_codes": [],
     "functional": ["--functional", "7DF"],
+    "other_answers": [],
     "ruled": ["--profile", str(GOLDEN / "ruled.toml")],
     "ruled_unanswered": ["--profile", str(GOLDEN / "ruled.toml")],
     "ruled_exchanged": ["--tester", "7E8", "--unit", "7E0", "--profile", str(GOLDEN / "ruled.toml")],
     "ruled_refused": ["--profile", str(GOLDEN / "ruled.toml")],
+    "ruled_other": ["--profile", str(GOLDEN / "ruled_other.toml")],
     "long": [],
 }
 

@@ -32,6 +32,7 @@ NAMES = {
     "none_in_a": "a left log without a frame",
     "nothing": "two logs without a frame",
     "not_clean": "a line that is not in the right log, of two that are cut",
+    "longer_answers": "two answers that took much longer in the right session, and one in the left one",
     "ruled_same": "seeds, keys and a timer that a profile leaves out",
     "ruled_changed": "a counter, an identification and a request of which a profile masks a part",
 }

@@ -175,10 +175,26 @@ FAULTS_OF_CODES = [
     ("a code where the length fits none", "<i>(reportSupportedDTC)</i>", "<i>(reportSupportedDTC)</i> <i>(read as SAE J2012: P0123-45)</i>"),
 ]
 
+# Faults of a page of golden/other_answers.log.
+FAULTS_OF_ECHOES = [
+    ("what is answered", "answers 62 F1 00, asked", "answers 62 F1 01, asked"),
+    ("what was asked", "asked was 22 F1 01<", "asked was 22 F1 00<"),
+    ("an identifier less that was asked", "asked was 22 F1 90 F1 8C<", "asked was 22 F1 90<"),
+    ("how much more was asked", "00 0F 00 and 1 byte more", "00 0F 00 and 2 bytes more"),
+    ("an answer that is not said to be other", re.compile(r" <em>answers [^<]*</em>"), ""),
+    ("one that looks as if it were none", '<tr class="s"><td>1<', '<tr class="ok"><td>1<'),
+    ("another number of them", re.compile(r"other than asked <b>\d+</b>"), "other than asked <b>9</b>"),
+    ("a link to another one", '<a href="#i2">item 2</a>, ', '<a href="#i7">item 7</a>, '),
+    ("their count", re.compile(r"<dt>other than asked</dt><dd>\d+"), "<dt>other than asked</dt><dd>9"),
+    ("no sentence", " Not every answer is to what was asked.", ""),
+]
+
 
 def faults(cases):
-    """The reader finds each fault of a page without rules, of one under rules, and of one with trouble codes."""
+    """The reader finds each fault of a page without rules, of one under rules, of one with trouble codes, and of one with answers to
+    something else."""
     planted(cases, "clean", FAULTS)
+    planted(cases, "other_answers", FAULTS_OF_ECHOES)
     planted(cases, "trouble_codes", FAULTS_OF_CODES)
     planted(cases, "ruled", FAULTS_UNDER_RULES)
 
@@ -390,9 +406,49 @@ def made_logs():
         ("each byte behind a text", log_of_messages(*(b"WBA3" + bytes([byte]) for byte in range(256)))),
         *((f"{number} of each thing that needs a look", log_of(*number * needing_a_look())) for number in (1, 10, 11, 12)),
         *slow_logs(),
+        *echo_logs(),
         *block_logs(),
     ]:
         yield name, log, oracle.SIDES
+
+
+def echo_logs():
+    """Logs of answers that are to what was asked, or to something else: for each service, and at each place."""
+    for name, request, answer in [
+        ("a data identifier", "22F190", "62F19041"), ("another data identifier", "22F101", "62F10041"), ("another one, in its first byte", "22F101", "62F20141"),
+        ("one of three", "22F190F18C0105", "62F18C41"), ("none of three", "22F190F18C0105", "62F18D41"), ("parts of two", "22F190018C", "62F18C41"),
+        ("half an identifier", "22F190F1", "62F191"), ("no identifier", "22", "62F190"), ("a short answer", "22F190", "62F1"),
+        ("a session", "1003", "5003003201F4"), ("another session", "1003", "5001003201F4"), ("a session that asks for no answer", "1083", "5003003201F4"),
+        ("a session that is answered with bit 7", "1003", "5083003201F4"), ("another reset", "1101", "5102"), ("another report", "1902FF", "5901FF010000"),
+        ("another seed", "2701", "6703AABBCCDD"), ("another control", "280301", "6800"), ("another task", "2908", "6900"),
+        ("a defined identifier", "2C01F30001", "6C01F300"), ("another defined identifier", "2C01F30001", "6C01F301"), ("a defined identifier, not repeated", "2C01F30001", "6C01"),
+        ("another definition", "2C01F30001", "6C02F300"), ("all of them cleared", "2C03", "6C03"), ("another written identifier", "2EF19041", "6EF191"),
+        ("another scaling", "24F190", "64F19141"), ("another control of an input", "2FF19003", "6FF19103"), ("a routine", "3101FF00", "7101FF00"),
+        ("another routine", "3101FF00", "7101FF01"), ("another act of a routine", "3101FF00", "7103FF00"), ("a routine, not repeated", "3101FF00", "7101"),
+        ("a sub-function of routines that is none", "3105FF00", "7105FF01"), ("another such", "3105FF00", "7106FF00"), ("a block", "36010203", "7601"),
+        ("another block", "36010203", "7602"), ("another mode of a file", "3801000141", "7802"), ("a tester that is present", "3E00", "7E00"),
+        ("another presence", "3E00", "7E01"), ("a download", "340044000100000100", "74200FFF"), ("an upload's end", "37", "77"), ("another timing", "8301", "C302"),
+        ("another setting", "8502", "C501"), ("another event", "8603", "C605"), ("another link control", "8701", "C702"), ("another authentication", "2901", "6902"),
+        ("an unknown service", "BA01", "FA02"), ("a negative one", "22F190", "7F2231"),
+    ]:
+        yield f"an answer to {name}", log_of_both(request, answer)
+    many = "22" + "".join(f"{number:04X}" for number in range(1, 2048))
+    yield "an answer to the last of 2,047 identifiers", log_of_both(many, "6207FF41")
+    yield "an answer to none of 2,047 identifiers", log_of_both(many, "62080041")
+    yield "an answer to none of 16 identifiers", log_of_both(many[:66], "62080041")
+    yield "an answer to none of 15 identifiers", log_of_both(many[:62], "62080041")
+    yield "an answer to the last of 2,048 identifiers", log_of_both(many + "0800", "62080041")
+    yield "an answer to none of 2,048 identifiers", log_of_both(many + "0800", "62080141")
+    other = [log_of_both("22F101", "62F10041")]
+    yield "twelve answers to something else", b"".join(12 * other)
+    yield "answers to something else in folded blocks", b"".join([*(1100 * [log_of_both("22F190", "62F19041")]), *other])
+    yield "an answer to something else, a keep-alive and a stray between", log_of("7E0#0322F101", "7E0#023E80", "7E8#0141", "7E8#037F2278", "7E8#0462F10041")
+    yield "an answer to the request before", log_of("7E0#0322F101", "7E0#0322F102", "7E8#0462F10141", "7E8#0462F10241")
+
+
+def log_of_both(request, answer):
+    """The log of a request and its answer."""
+    return "".join(oracle.canonical_lines([(TESTER, bytes.fromhex(request)), (UNIT, bytes.fromhex(answer))])).encode()
 
 
 def slow_logs():

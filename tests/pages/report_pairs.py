@@ -44,6 +44,9 @@ TABLES = ["comparisons", "refused_comparisons", "strict_comparisons", "shown_com
 OTHER_REQUEST, OTHER_ANSWER, OTHER_STRAY = "7E0#0322F191", "7E8#0462F19042", "7E8#0142"
 PENDING, KEEP_ALIVE, SILENT, SILENT_ANSWER = "7E8#037F2278", "7E0#023E80", "7E0#021083", "7E8#025003"
 
+# The other frames of the message that FIRST begins.
+NEXT, LAST = "7E8#2133413543353045", "7E8#2246313233343536"
+
 # The frames of two sessions that differ in each way, in how many places they do, and what kind the first one is of, in words; none where
 # they are the same.
 DIFFERENCES = [
@@ -98,6 +101,43 @@ DIFFERENCES = [
     ("more than that, and no item in both", [FIRST, *23 * [UNKNOWN]], [*20 * [UNKNOWN]], None),
 ]
 
+# How many microseconds the answers of two sessions took, item by item; and what is said of those that took much longer: in which log, how
+# many, the number of the slowest, and how long that took in A and in B.
+LONGER = [
+    ("as long in both", [1000, 640_000], [1000, 640_000], []),
+    ("twenty times as long", [1000, 31_000], [1000, 640_000], [("B", 1, 2, "31.000", "640.000")]),
+    ("the same the other way round", [1000, 640_000], [1000, 31_000], [("A", 1, 2, "640.000", "31.000")]),
+    ("exactly twice as long", [50_000, 500_000], [100_000, 1_000_000], []),
+    ("a microsecond more", [50_000, 500_000], [100_001, 1_000_001], [("B", 2, 2, "500.000", "1000.001")]),
+    ("49.999 ms longer", [0, 10_000], [49_999, 59_999], []),
+    ("50 ms longer", [0, 10_000], [50_000, 60_000], [("B", 2, 2, "10.000", "60.000")]),
+    ("50 ms longer, and less than twice as long", [50_000, 60_000], [100_000, 110_000], []),
+    ("the slowest is not the one that grew most", [0, 400_000, 1000], [50_000, 900_000, 800_000], [("B", 3, 2, "400.000", "900.000")]),
+    ("of equal ones the first", [3000, 1000, 2000, 0], [70_000, 90_000, 90_000, 89_999], [("B", 4, 2, "1.000", "90.000")]),
+    ("both ways", [5000, 900_000, 300_000, 1000], [200_000, 1000, 2000, 100_000], [("A", 2, 2, "900.000", "1.000"), ("B", 2, 1, "5.000", "200.000")]),
+    ("some that are quicker", [300_000, 5000, 300_000], [299_000, 300_000, 200_000], [("B", 1, 2, "5.000", "300.000")]),
+    ("the first of more than a table has", [1000] * 450, [60_000, *[1000] * 200, 60_000, *[1000] * 248], [("B", 2, 1, "1.000", "60.000")]),
+    ("all of more than a table has", [1000] * 250, [60_000] * 200 + [61_000] * 50, [("B", 250, 201, "1.000", "61.000")]),
+]
+
+# The frames of two sessions with their microseconds, and what is said of each log of answers that took much longer there.
+LONGER_LOGS = [
+    ("an answer that changed", [(0, REQUEST), (1000, ANSWER)], [(0, REQUEST), (90_000, OTHER_ANSWER)], [("B", 1, 1, "1.000", "90.000")]),
+    ("an answer that is refused", [(0, REQUEST), (1000, ANSWER)], [(0, REQUEST), (90_000, REFUSED)], [("B", 1, 1, "1.000", "90.000")]),
+    ("refused in both", [(0, REQUEST), (90_000, REFUSED)], [(0, REQUEST), (1000, REFUSED)], [("A", 1, 1, "90.000", "1.000")]),
+    ("behind pending replies", [(0, REQUEST), (1000, ANSWER)], [(0, REQUEST), (2000, PENDING), (3000, PENDING), (90_000, ANSWER)], [("B", 1, 1, "1.000", "90.000")]),
+    ("to the first frame of an answer", [(0, REQUEST), (1000, FIRST), (2000, NEXT), (3000, LAST)], [(0, REQUEST), (1000, FIRST), (60_000, NEXT), (90_000, LAST)], []),
+    ("no answer", [(0, REQUEST)], [(0, REQUEST), (900_000, ANSWER)], []),
+    ("a pending reply alone", [(0, REQUEST), (1000, PENDING)], [(0, REQUEST), (900_000, PENDING)], []),
+    ("an item that the other log lacks", [(0, STRAY)], [(0, STRAY), (1, OTHER_REQUEST), (900_000, OTHER_ANSWER)], []),
+    ("strays", [(0, REQUEST), (1000, ANSWER), (2000, STRAY)], [(0, REQUEST), (1000, ANSWER), (900_000, STRAY)], []),
+    ("a keep-alive", [(0, KEEP_ALIVE)], [(900_000, KEEP_ALIVE)], []),
+    ("an answer before its request by the clock of A", [(5000, REQUEST), (1000, ANSWER)], [(0, REQUEST), (900_000, ANSWER)], []),
+    ("an answer before its request by the clock of B", [(0, REQUEST), (900_000, ANSWER)], [(5000, REQUEST), (1000, ANSWER)], []),
+    ("an answer at the time of its request", [(0, REQUEST), (0, ANSWER)], [(0, REQUEST), (50_000, ANSWER)], [("B", 1, 1, "0.000", "50.000")]),
+    ("behind another that one log lacks", [(0, STRAY), (1, REQUEST), (2, ANSWER)], [(0, REQUEST), (90_000, ANSWER)], [("B", 1, (2, 1), "0.001", "90.000")]),
+]
+
 # Faults, each as a text of a page of golden/pairs and what stands in its place.
 PLANTED = [
     ("a log that is not clean is called clean", "none_in_a", r'<b class="bd">not clean:</b> <em>[^<]*</em>', "clean"),
@@ -121,10 +161,17 @@ PLANTED = [
     ("a masked byte that is told", "ruled_changed", r'(?s)(<section id="items".*?<code>62 01 05) \.\.', "\\1 00"),
     ("a mark in a masked message", "ruled_changed", r'(?s)(<section id="items".*?<code>62 01 05) \.\.', "\\1 <mark>..</mark>"),
     ("a folded byte that differs", "bytes_put_in", r'(?s)(<section id="items".*?bytes more, )the same', "\\g<1>1 of them differs"),
+    ("much longer answers that are not told", "longer_answers", r"<p><b>\d+</b> answers took .* in B as .*\n", ""),
+    ("a much longer answer more", "longer_answers", r"<b>2</b> answers took", "<b>3</b> answers took"),
+    ("much longer answers of the other log", "longer_answers", "long in B as in A", "long in A as in B"),
+    ("another slowest answer", "longer_answers", r'<a href="#t\d+">A&#160;\d+', '<a href="#t2">A&#160;2'),
+    ("another time", "longer_answers", r"640\.000", "640.001"),
+    ("a link to another row", "longer_answers", r'href="#t\d+"', 'href="#t1"'),
+    ("a row that is not called by its name", "longer_answers", r'<span id="t\d+"></span>', ""),
+    ("a row that is called so without a reason", "longer_answers", r'(<tr class="same"><th scope="row">1<td>1<td>)', '\\1<span id="t1"></span>'),
+    ("times that are not compared", "longer_answers", r"Times are compared in .* with a minus\. Times", "Times are not compared. Times"),
+    ("times that are compared", "request_changed", r"Times are not compared\.", "Times are compared in the verdict alone."),
 ]
-
-# The other frames of the message that FIRST begins.
-NEXT, LAST = "7E8#2133413543353045", "7E8#2246313233343536"
 
 # The lengths of messages, and the places at which they differ, about those at which a page shows less of one.
 LENGTHS = (2, 31, 33, 63, 64, 65, 80, 96)
@@ -343,12 +390,38 @@ def made_pairs():
     for name, one, other in RECORDED:
         yield name, one, other, {}
         yield f"{name}, the other way round", other, one, {"is_strict": True}
+    for name, left, right, _ in longer_pairs():
+        yield f"answers that took longer: {name}", left, right, {}
+        yield f"answers that took longer: {name}, the other way round", right, left, {}
     for name, left, right, limit, _ in REFUSALS:
         yield f"refused: {name}", left, right, {"limit": limit}
         yield f"refused, and clean: {name}", left, right, {"limit": limit, "is_strict": True}
     yield "a canonical log that is longer than the limit", SHORT_LINES, SHORT_LINES, {"limit": len(SHORT_LINES)}
     for left, right in itertools.product((LONG_ANNOUNCEMENT, TWO), (LONG_ANNOUNCEMENT, TWO)):
         yield "a message that announces too much", left, right, {}
+
+
+def longer_pairs():
+    """Two sessions whose answers took so long, and what is said of those that took much longer."""
+    for name, left, right, told in LONGER:
+        yield name, waiting(left), waiting(right), told
+    for name, left, right, told in LONGER_LOGS:
+        yield name, timed(left), timed(right), told
+
+
+def waiting(times):
+    """The log of so many exchanges, each with its number, of which each answer took so many microseconds."""
+    return timed(frame for number, micros in enumerate(times) for frame in waiting_exchange(number, micros))
+
+
+def waiting_exchange(number, micros):
+    asked = 10_000_000 * number
+    return (asked, f"7E0#0322{number:04X}"), (asked + micros, f"7E8#0462{number:04X}41")
+
+
+def timed(frames):
+    """The log of frames, each with its microseconds."""
+    return b"".join(b"(%d.%06d) can0 %s\n" % (micros // 1_000_000, micros % 1_000_000, frame.encode()) for micros, frame in frames)
 
 
 def long_messages():
@@ -547,6 +620,26 @@ def known_texts(cases):
         with files(left, right) as names:
             page = cases.run(["report", *names]).output.decode()
         cases.report(f"what is known of {name}", [f"{text!r} is not there" for text in texts if text not in page])
+
+
+def known_longer(cases):
+    """What is said of answers that took much longer is known, and nothing else is; the verdict and the status are the same without it."""
+    for name, left, right, told in longer_pairs():
+        with files(left, right) as names:
+            found, compared = (cases.run([job, *names]) for job in ("report", "compare"))
+        page = found.output.decode()
+        notes = re.findall(r"<p><b>(\d+)</b> answers? took more than twice as long in (.) as in (.), and at least 50&#160;ms longer", page)
+        wrong = differences("the notes", notes, [(f"{count}", log, "AB".replace(log, "")) for log, count, *_ in told])
+        for log, count, places, one, other in told:
+            left_number, right_number = places if isinstance(places, tuple) else (places, places)
+            front = ": " if count == 1 else r"\. The slowest: "
+            link = f'<a href="#t{left_number}">A&#160;{left_number}, B&#160;{right_number}</a> <b>Read<wbr>Data<wbr>By<wbr>Identifier</b> <code>22 [0-9A-F]{{2}} [0-9A-F]{{2}}</code>'
+            times = [f"<b>{time}&#160;ms</b> in {side}" if side == log else f"{time}&#160;ms in {side}" for side, time in (("A", one), ("B", other))]
+            line = f"longer{front}{link}, {', '.join(times)}\\.</p>\n"
+            wrong += [] if re.search(line, page) else [f"{line!r} is not there"]
+            wrong += [] if f'<th scope="row">{left_number}<td>{right_number}<td><span id="t{left_number}"></span>' in page else [f"no row t{left_number}"]
+        wrong += differences("status", found.status, compared.status) + ([] if told else differences("names of rows", re.findall(r' id="t\d+"', page), []))
+        cases.report(f"answers that took longer: {name}", wrong)
 
 
 def known_notes(cases):
@@ -758,7 +851,7 @@ def main():
     if len(sys.argv) < 2:
         sys.exit(__doc__)
     cases = Cases(os.path.abspath(sys.argv[1]), sys.argv[2:])
-    cases.each([golden, planted, pages, pages_under_rules, told_differences, known_texts, known_notes, refused_logs, refused_by_compare, names, options, strict_runs, streams, devices, memory])
+    cases.each([golden, planted, pages, pages_under_rules, told_differences, known_texts, known_longer, known_notes, refused_logs, refused_by_compare, names, options, strict_runs, streams, devices, memory])
     cases.end()
 
 

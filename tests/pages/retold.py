@@ -50,7 +50,7 @@ def tell_item(row, items, outcomes):
             items[row.item] = f"stray tester {digits}"
         case "stray":
             items[row.item] = f"stray {said['of']} {digits}"
-        case "positive":
+        case "positive" | "other than asked":
             outcomes[row.item] = f"positive {digits}"
         case "negative":
             outcomes[row.item] = f"negative {code_listed(said['code'])} {digits}"
@@ -100,11 +100,12 @@ def counts_of_rows(rows):
     """How many rows there are of each kind, as the verdict of the page has it."""
     kinds = [row.kind for row in rows]
     names = {kind: "requests" if kind == "request" else kind for kind in KINDS}
-    return {"messages": sum(kind in MESSAGES for kind in kinds), **{name: kinds.count(kind) for kind, name in names.items()}}
+    counts = {name: kinds.count(kind) for kind, name in names.items()}
+    return {"messages": sum(kind in MESSAGES for kind in kinds), **counts, "positive": counts["positive"] + counts["other than asked"]}
 
 
 def counts_in(counts):
     """The same, as the page counts it: a message that rules leave out has no row."""
     counted = {count.name: int(count.number) for count in counts if count.name not in ("lines", "frames")}
     left_out = counted.pop("left out", 0)
-    return {"no answer (all units)": 0, **counted, "messages": counted["messages"] - left_out}
+    return {"no answer (all units)": 0, "other than asked": 0, **counted, "messages": counted["messages"] - left_out}

@@ -3,8 +3,8 @@
 
     tests/program/interop.py crates/udsnorm/out/udsnorm
 
-The tools are can-utils' log2asc and asc2log, python-can, and tshark (Debian: apt-get install can-utils python3-can tshark).
-What is missing is named and skipped. Cells of the table other_tools.txt, and what the page says of one
+The tools are can-utils' log2asc and asc2log, python-can, tshark and scapy (Debian: apt-get install can-utils python3-can
+tshark python3-scapy). What is missing is named and skipped. Cells of the table other_tools.txt, and what the page says of one
 version, are compared for tools of that version only.
 
 Prints a line for each case and ends with `N passed, M failed`; its status is 1 where a case failed.
@@ -28,7 +28,7 @@ from told import place
 TOP = Path(__file__).resolve().parents[2]
 PAGE = TOP / "docs" / "interop.md"
 TABLE = Path(__file__).with_name("other_tools.txt")
-PACKAGES = {"log2asc": "can-utils", "python-can": "python3-can", "tshark": "tshark"}
+PACKAGES = {"log2asc": "can-utils", "python-can": "python3-can", "tshark": "tshark", "scapy": "python3-scapy"}
 
 # By python-can: reads a log of candump, or writes a file again in the format that the other name ends in.
 READER = """
@@ -46,6 +46,22 @@ for message in reader(sys.argv[1]):
     writer(message)
 writer.stop()
 """
+
+# By scapy: the messages of a log of candump, each with its identifier.
+BUILDER = """
+import sys
+from scapy.contrib.isotp import ISOTPMessageBuilder
+from scapy.layers.can import rdcandump
+builder = ISOTPMessageBuilder(use_ext_address=False)
+for frame in rdcandump(sys.argv[1]):
+    builder.feed(frame)
+    while builder.count:
+        message = builder.pop()
+        print(message.rx_id, bytes(message.data).hex().upper())
+"""
+
+# The modules of the tools that are no programs.
+MODULES = {"python-can": "can", "scapy": "scapy"}
 
 # The longest message that tshark 4.0.17 puts together.
 LONGEST_OF_TSHARK = 28555
@@ -69,10 +85,10 @@ def run(*words):
 
 
 @functools.cache
-def python_with_can():
-    """A Python that has python-can: this one, or that of Debian."""
+def python_with(module):
+    """A Python that has this module: this one, or that of Debian."""
     for python in (sys.executable, "/usr/bin/python3"):
-        if Path(python).exists() and run(python, "-c", "import can").returncode == 0:
+        if Path(python).exists() and run(python, "-c", f"import {module}").returncode == 0:
             return python
     return None
 
@@ -80,9 +96,9 @@ def python_with_can():
 @functools.cache
 def version_of(tool):
     """The version of an installed tool, by Debian where the tool doesn't tell it; None where the tool is missing."""
-    if tool == "python-can":
-        python = python_with_can()
-        return run(python, "-c", "import can; print(can.__version__)").stdout.strip() if python else None
+    if tool in MODULES:
+        python = python_with(MODULES[tool])
+        return run(python, "-c", f"import {MODULES[tool]}; print({MODULES[tool]}.__version__)").stdout.strip() if python else None
     if not shutil.which(tool):
         return None
     if tool == "tshark":
@@ -106,7 +122,7 @@ def frames_of_log2asc(log):
 
 
 def frames_of_python_can(log):
-    done = run(python_with_can(), "-c", READER, log)
+    done = run(python_with("can"), "-c", READER, log)
     return done.stdout.split("\n")[:-1], done.returncode
 
 
@@ -139,6 +155,15 @@ def messages_of_tshark(log):
         if "uds_raw" in layers:
             side = "tester" if int(layers["can"]["can.id"]) in TESTERS else "unit"
             messages.append((side, layers["uds_raw"][0].upper()))
+    return messages
+
+
+def messages_of_scapy(log):
+    """The messages that scapy puts together: who sent each, and its bytes."""
+    messages = []
+    for line in run(python_with("scapy"), "-c", BUILDER, log).stdout.split("\n")[:-1]:
+        identifier, data = line.split(" ")
+        messages.append(("tester" if int(identifier) in TESTERS else "unit", data))
     return messages
 
 
@@ -224,6 +249,17 @@ def tshark_finds_messages(cases, logs):
             cases.report(f"tshark finds no message of {log.name}", difference(messages_of_tshark(log), []))
 
 
+def scapy_finds_messages(cases, logs):
+    for log in logs:
+        cases.report(f"scapy finds the messages of {log.name}", difference(messages_of_scapy(log), messages_of_list(cases, log)))
+
+
+def scapy_misreads_flexible_frames(cases, log):
+    """Of a recording of CAN FD it finds other messages than of its canonical log."""
+    wrong = [] if messages_of_scapy(log) != messages_of_list(cases, log) else ["the same messages"]
+    cases.report(f"scapy finds other messages in {log.name}", wrong)
+
+
 def asc_and_back(cases, logs, folder):
     """asc2log writes what log2asc has made of a log, and `udsnorm` reads that; the ASC file itself it refuses."""
     for log in logs:
@@ -241,7 +277,7 @@ def python_can_writes(cases, logs, folder):
             continue
         again = folder / "python-can.log"
         again.unlink(missing_ok=True)
-        run(python_with_can(), "-c", WRITER, log, again)
+        run(python_with("can"), "-c", WRITER, log, again)
         cases.case(f"{log.name} written by python-can", cases.run(["compare", *sides_of(log), log, again]), DONE, b"same\n")
     for name in ("vin", "candump-fd"):
         for kind in ("asc", "csv", "blf"):
@@ -252,9 +288,9 @@ def converted(cases, log, kind, folder):
     """python-can writes a log in another format, which is refused, and that as a log again. Its CSV files don't tell CAN FD."""
     file, again = folder / f"python-can.{kind}", folder / "converted.log"
     again.unlink(missing_ok=True)
-    run(python_with_can(), "-c", WRITER, log, file)
+    run(python_with("can"), "-c", WRITER, log, file)
     refused(cases, f"{log.name} as a file {kind} of python-can", file, place(1, 1))
-    run(python_with_can(), "-c", WRITER, file, again)
+    run(python_with("can"), "-c", WRITER, file, again)
     if kind == "csv" and "##" in log.read_text():
         refused(cases, f"that of {log.name} converted", again, place(4, 47))
     else:
@@ -279,7 +315,7 @@ def refused(cases, name, file, told):
 @functools.cache
 def versions_of_page():
     """The versions that the page was tried with: each item of its list begins with a tool and ends with its version."""
-    return dict(re.findall(r"^- `(log2asc|python-can|tshark)` .*?(\d+\.\d+\.\d+)$", PAGE.read_text(), re.M))
+    return dict(re.findall(r"^- `(log2asc|python-can|tshark|scapy)` .*?(\d+\.\d+\.\d+)$", PAGE.read_text(), re.M))
 
 
 def page_has_versions(cases):
@@ -345,13 +381,14 @@ def place_of(cases, line, folder):
 
 def table(cases, tools, folder):
     """Each cell of the table, for the tools whose version is that of the page."""
-    compared = [tool for tool in tools if is_of_page(tool)]
-    for tool in set(tools) - set(compared):
+    readers = [tool for tool in READERS if tool in tools]
+    compared = [tool for tool in readers if is_of_page(tool)]
+    for tool in set(readers) - set(compared):
         print(f"skipped the table for {tool}: it is of {versions_of_page().get(tool)}, and {tools[tool]} is installed", flush=True)
     for line, cells in rows():
         found = {"udsnorm": place_of(cases, line, folder)}
         found |= {tool: what_it_does(tool, line, folder) for tool in compared}
-        said = dict(zip(["udsnorm", *PACKAGES], cells))
+        said = dict(zip(["udsnorm", *READERS], cells))
         wrong = [f"{tool}: {found[tool]}, not {said[tool]}" for tool in found if found[tool] != said[tool]]
         cases.report(f"the table, {line[:60]!r}", wrong)
 
@@ -374,12 +411,16 @@ def main():
         folder = Path(directory)
         page_has_versions(cases)
         logs = canonical_logs(cases, folder)
-        for tool in tools:
+        for tool in [tool for tool in READERS if tool in tools]:
             reads_canonical(cases, tool, logs)
         if "tshark" in tools:
             tshark_finds_messages(cases, logs)
             tshark_writes(cases, TOP / "examples" / "vin.log", folder)
         recordings = [log for log in sorted((TOP / "examples").glob("*.log")) if log.with_suffix(".canonical").exists()]
+        if "scapy" in tools:
+            scapy_finds_messages(cases, logs)
+            if is_of_page("scapy"):
+                scapy_misreads_flexible_frames(cases, TOP / "examples" / "vin-fd-crlf.log")
         if "log2asc" in tools:
             if is_of_page("log2asc"):
                 log2asc_loses_times(cases, TOP / "examples" / "vin.canonical")

@@ -27,9 +27,10 @@ import commands
 import oracle
 from cases import DEVICE, DIFFERENT, DONE, REFUSAL, WORDS, Cases
 from counts import counts_line
+from recordings import CANONICAL, recorded
 from refuser import READ, WRITE, Refuser
 from runs import Ended, end, files, give, peak_kilobytes, run, start
-from tables import EXAMPLES
+from tables import EXAMPLES, stamped
 from told import LONG_CANONICAL, LONG_LOG, READ_FAILED, WRITE_FAILED, oversize, place
 
 FIRST_LOG = b"(1700000000.000000) can0 7E0#0322F190"
@@ -39,6 +40,9 @@ OVERSIZE = b"(1.000000) can0 7E8#1000001000004142\n"
 
 # The identifiers of the examples that are not of 7E0 and 7E8.
 SIDES = {"extended-identifiers.log": {oracle.TESTER: "18DA10F1", oracle.UNIT: "18DAF110"}}
+
+# The sides of a log in which 7E8 asks and 7E0 answers.
+EXCHANGED = ["--tester", "7E8", "--unit", "7E0"]
 
 # A log with a message of each role, one of them in several frames between which another side's frame stands, and its messages.
 ROLES = b"""\
@@ -171,6 +175,21 @@ def canonical_of_unit(message):
         digits = data.ljust(8, b"\xcc").hex().upper()
         lines.append(f"({n // 1000:010d}.{n % 1000:03d}000) can0 {identifier}#{digits}\n")
     return "".join(lines).encode()
+
+
+def kept_requests(cases):
+    """Of an answer that is other than was asked `messages` tells this by what it keeps of the request: the first 4,095 bytes, and of
+    more data identifiers than these have none. `list` keeps all."""
+    for request, answer, is_told in [
+        (b"\x22" + b"\xf1\x01" * 2047, "62F100", True),
+        (b"\x22" + b"\xf1\x01" * 2048, "62F100", False),
+        (b"\x2e" + b"\xf1\x01" * 2048, "6EF100", True),
+    ]:
+        log = recorded(CANONICAL, request)
+        log += stamped(log.count(b"\n"), f"7E0#03{answer}")
+        told = [cases.run([job, "--json", *EXCHANGED], log).output.count(b'"echo":false') for job in ("messages", "list")]
+        name = f"an answer to another request of {len(request)} bytes, {request[:3].hex().upper()} and so on"
+        cases.report(name, [] if told == [is_told, 1] else [f"told by messages and by list: {told}"])
 
 
 def examples(cases):
@@ -527,7 +546,7 @@ def main():
     cases = Cases(os.path.abspath(sys.argv[1]), sys.argv[2:])
     # What a shell starts in the background ignores interrupts, and so would each program that is started here.
     signal.signal(signal.SIGINT, signal.default_int_handler)
-    cases.each([logs, default_limit, the_longest_message, examples, places, watched, devices, prompt, messages_one_by_one, watched_one_by_one, device_calls, whole_lines, full_writes, memory])
+    cases.each([logs, default_limit, the_longest_message, kept_requests, examples, places, watched, devices, prompt, messages_one_by_one, watched_one_by_one, device_calls, whole_lines, full_writes, memory])
     cases.end()
 
 

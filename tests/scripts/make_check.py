@@ -71,11 +71,13 @@ OF_LIBRARIES = {
     "uds_find: proofs": ["uds_message: proofs"],
     "uds_names: proofs": ["uds_message: proofs"],
     "uds_echo: proofs": ["uds_message: proofs", "uds_rules: proofs"],
+    "asked_request: proofs": ["uds_echo: proofs"],
     "trace_log: proofs": ["uds_exchange: proofs", "uds_rules: proofs"],
     "trace_run: proofs": ["trace_log: proofs"],
     "trace_text: proofs": ["trace_log: proofs", "uds_echo: proofs"],
     "asked_profile: proofs": ["profile: proofs", "trace_text: proofs"],
-    "trace_canon: proofs": ["trace_run: proofs", "trace_text: proofs", "uds_find: proofs"],
+    "command_line: proofs": ["asked_profile: proofs"],
+    "trace_canon: proofs": ["trace_run: proofs", "trace_text: proofs", "uds_find: proofs", "asked_request: proofs"],
     "shown_bytes: proofs": ["trace_text: proofs", "uds_names: proofs"],
     "pair_words: proofs": ["shown_rows: proofs", "shown_bytes: proofs"],
     "trace_report: proofs": ["trace_canon: proofs", "shown_bytes: proofs"],
@@ -84,12 +86,12 @@ OF_LIBRARIES = {
 }
 QUICK_TESTS = [*(f"program/{name}" for name in ["command_line", "program", "sessions"]), *(f"documents/{name}" for name in ["shipped", "recipes", "release"])]
 OTHER_TESTS = ["documents/documents", *(f"scripts/{name}" for name in ["make_check", "make_test", "make_evidence", "make_help"])]
-OF_PROGRAM = {"udsnorm: make build": ["asked_profile: proofs", "trace_pair: proofs", "trace_difference: proofs"], **{f"tests/{test}.py": [] for test in OTHER_TESTS}}
+OF_PROGRAM = {"udsnorm: make build": ["command_line: proofs", "trace_pair: proofs", "trace_difference: proofs"], **{f"tests/{test}.py": [] for test in OTHER_TESTS}}
 OF_PROGRAM |= {f"tests/{test}.py": ["udsnorm: make build"] for test in QUICK_TESTS}
 
 # The crates beside the program, each with those below it that are checked.
 UP_TO_LOG = ["uds_message", "uds_rules", "uds_exchange", "trace_log"]
-UP_TO_CANON = [*UP_TO_LOG, "uds_find", "uds_echo", "trace_run", "trace_text", "trace_canon"]
+UP_TO_CANON = [*UP_TO_LOG, "uds_find", "uds_echo", "asked_request", "trace_run", "trace_text", "trace_canon"]
 PAGES = [*UP_TO_CANON, "uds_names", "uds_difference", "shown_rows", "shown_bytes", "pair_words", "trace_report", "trace_pair"]
 LIBRARIES = [*PAGES, "trace_difference", "profile", "asked_profile"]
 TEXTS = [*UP_TO_CANON, "uds_difference", "shown_rows", "trace_difference", "tried_sessions"]
@@ -100,7 +102,7 @@ APART = {
     "layer_bench": ["uds_message", "uds_exchange"],
     "session_bench": PAGES,
     "tried_sessions": UP_TO_LOG,
-    "acceptance": ["uds_message", "uds_names", "uds_rules", "uds_echo", "profile", "uds_exchange", "uds_difference", "uds_find"],
+    "acceptance": ["uds_message", "uds_names", "uds_rules", "uds_echo", "asked_request", "profile", "uds_exchange", "uds_difference", "uds_find"],
     "call_acceptance": [*TEXTS, "profile", "asked_profile"],
     "page_acceptance": [*PAGES, "tried_sessions"],
     "refused_memory": TEXTS,
@@ -187,7 +189,7 @@ def proved(tree, crate, run):
 def not_proved(tree, run):
     """What is wrong with where each crate is proved. What is apart leaves this tree to the program."""
     wrong = []
-    for crate, below in (APART | {"udsnorm": LIBRARIES, "trace_canon": UP_TO_CANON[:-1]}).items():
+    for crate, below in (APART | {"udsnorm": [*LIBRARIES, "command_line"], "trace_canon": UP_TO_CANON[:-1]}).items():
         found = proved(tree, crate, run)
         there = [each for each, had in found if had >= {*below} and each in {"udsnorm": [tree]}.get(crate, [tree, *beside(tree)])]
         wrong += [] if len(found) == len(there) == 1 and not (crate in APART and there == [tree]) else [f"{crate}: {found}"]

@@ -2,8 +2,8 @@
 //!
 //! Each crate below is proved by itself, without a test: the gate would prove it again with them. That its definitions say
 //! what was meant is shown here, layer by layer, by worked values: `log_lines`, `device_calls`, `frame_layouts`,
-//! `frame_verdicts`, `message_frames`, `message_kinds`, `standard_names`, `profiles`, `echoes`, `pairings`, `slow_rows`,
-//! `credited_answers`, `functional_identifiers`, `session_rows`.
+//! `frame_verdicts`, `message_frames`, `message_kinds`, `standard_names`, `profiles`, `echoes`, `kept_requests`, `pairings`,
+//! `slow_rows`, `credited_answers`, `functional_identifiers`, `session_rows`.
 //!
 //! `message_frames` also tries the lengths at which a message has a frame more, and `sizes` those at which a buffer may grow.
 //!
@@ -25,6 +25,8 @@ mod frame_layouts;
 mod frame_verdicts;
 #[cfg(test)]
 mod functional_identifiers;
+#[cfg(test)]
+mod kept_requests;
 #[cfg(test)]
 mod log_lines;
 #[cfg(test)]

@@ -188,6 +188,34 @@ fn requests_to_all_units_have_their_page(rt: HostRuntime) -> Result<(), Fail> {
     Ok(())
 }
 
+/// A session in which the unit answers another data identifier than was asked for, and then that one.
+const OTHER_ANSWER: &str = "\
+(0.000000) can0 7E0#0322F101
+(0.001000) can0 7E8#0462F10041
+(0.002000) can0 7E0#0322F190
+(0.003000) can0 7E8#0462F19041
+";
+
+#[test]
+fn answers_to_something_else_have_their_page(rt: HostRuntime) -> Result<(), Fail> {
+    let alloc = rt.alloc();
+    let (answer, writer) = reported(alloc, OTHER_ANSWER.as_bytes(), Vec::new(alloc))?;
+    answer?;
+    let page = page_in(writer)?;
+    assert_page(
+        &rt,
+        &page,
+        &[
+            "<b>positive</b> <em>answers 62 F1 00, asked was 22 F1 01</em> <code>62 F1 00 41</code>",
+            "<b>positive</b> <code>62 F1 90 41</code>",
+            "Not every answer is to what was asked.",
+            "other than asked <b>1</b>: <a href=\"#i1\">item 1</a>",
+            "<dt>other than asked</dt><dd>1</dd>",
+        ],
+    );
+    Ok(())
+}
+
 #[test]
 fn two_sessions_are_kept(rt: HostRuntime) -> Result<(), Fail> {
     let alloc = rt.alloc();
@@ -322,6 +350,58 @@ fn two_sessions_have_their_page(rt: HostRuntime) -> Result<(), Fail> {
         &page,
         &["B is refused", "line 1 column 1: not a log line"],
     );
+    Ok(())
+}
+
+/// Three exchanges.
+const QUICK: &str = "\
+(0.000000) can0 7E0#0322F190
+(0.012000) can0 7E8#0462F19041
+(1.000000) can0 7E0#0322F191
+(1.031000) can0 7E8#0462F19141
+(2.000000) can0 7E0#0322F192
+(2.100000) can0 7E8#0462F19241
+";
+
+/// The same: the second answer took twenty times as long, the third one exactly twice.
+const SLOW: &str = "\
+(0.000000) can0 7E0#0322F190
+(0.012000) can0 7E8#0462F19041
+(1.000000) can0 7E0#0322F191
+(1.640000) can0 7E8#0462F19141
+(2.000000) can0 7E0#0322F192
+(2.200000) can0 7E8#0462F19241
+";
+
+#[test]
+fn answers_that_took_much_longer_are_told(rt: HostRuntime) -> Result<(), Fail> {
+    let alloc = rt.alloc();
+    let page = page_of_two(alloc, QUICK, SLOW)?;
+    assert_page(
+        &rt,
+        &page,
+        &[
+            "The two sessions are the same</h2>",
+            "<p><b>1</b> answer took more than twice as long in B as in A, and at least 50&#160;ms longer: <a href=\"#t2\">A&#160;2, B&#160;2</a> ",
+            "<code>22 F1 91</code>, 31.000&#160;ms in A, <b>640.000&#160;ms</b> in B.</p>\n<table",
+            "<th scope=\"row\">1<td>1<td><div",
+            "<th scope=\"row\">2<td>2<td><span id=\"t2\"></span><div",
+            "<th scope=\"row\">3<td>3<td><div",
+            "Times are compared in the verdict alone",
+        ],
+    );
+    let page = page_of_two(alloc, SLOW, QUICK)?;
+    assert_page(
+        &rt,
+        &page,
+        &[
+            "<p><b>1</b> answer took more than twice as long in A as in B, and at least 50&#160;ms longer: <a href=\"#t2\">A&#160;2, B&#160;2</a> ",
+            "<code>22 F1 91</code>, <b>640.000&#160;ms</b> in A, 31.000&#160;ms in B.</p>\n<table",
+        ],
+    );
+    let page = page_of_two(alloc, SLOW, SLOW)?;
+    assert_page(&rt, &page, &["Times are not compared"]);
+    assert!(rt; !page.contains("answer took") && !page.contains("id=\"t2\""));
     Ok(())
 }
 

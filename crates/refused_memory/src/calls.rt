@@ -6,11 +6,11 @@ use isotp_receive::{Channel, Pair, Verdict};
 use std::alloc::Global;
 use std::io::{Error, ErrorKind, Result as IoResult, Write};
 use std::test::Fail;
-use trace_canon::{Comparison, CreditStyle};
+use trace_canon::Comparison;
 use trace_difference::in_memory::CountedDifference;
 use trace_io::{Reading, Writing};
 use trace_log::{CompareFault, Fault, Summary};
-use trace_text::{ItemStyle, Notation, Numbering};
+use trace_text::{CreditStyle, ItemStyle, Notation, Numbering};
 use tried_sessions::{Message, OF_MESSAGES, Page, SESSIONS, Session, sides};
 use uds_exchange::{
     Decider, Item, ItemSink, Judge, Meaning, MessageSink, OrderFault, Orderer, Pairing,

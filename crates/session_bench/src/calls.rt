@@ -3,14 +3,13 @@
 use crate::digest::Digest;
 use std::alloc::Global;
 use trace_canon::{
-    ComparisonStyle, CreditStyle, compare, explain, find, in_memory, list, messages, normalise,
-    watch, write_comparison,
+    compare, explain, find, in_memory, list, messages, normalise, watch, write_comparison,
 };
 use trace_io::{Bytes, Writing};
 use trace_log::Config;
 use trace_pair::{Title, align_two, pair_style, write_pair_page};
 use trace_report::{report, report_style};
-use trace_text::{ItemStyle, Notation, Numbering};
+use trace_text::{ComparisonStyle, CreditStyle, ItemStyle, Notation, Numbering};
 
 /// Lines with their numbers.
 const NUMBERED: ItemStyle = ItemStyle {

@@ -1,3 +1,5 @@
 pub mod Waited
 pub mod Slowest
 pub mod Laws
+pub mod Longer
+pub mod LongerLaws

@@ -18,7 +18,6 @@ use Rattle.uds_exchange.specs.OneMessage.{step_of}
 use Rattle.uds_exchange.specs.Order.{open_request}
 use Rattle.uds_exchange.specs.declared.judge.Judged.{Judged}
 use Rattle.uds_exchange.specs.declared.step.Step.TheVariants as becomes
-use Rattle.uds_exchange.specs.proving.Deciding.{Begins}
 use Rattle.uds_exchange.proofs.Promises.{open_request_goes_on}
 use Rattle.trace_log.specs.Messages.{messages_under}
 use Rattle.trace_run.specs.Seen.{IsSeen}
@@ -93,17 +92,3 @@ module _ (rules : List RuleValue) (T : List Entry) (e : Entry) where
       time_more MESSAGE_LIMIT rules 0 [] T e
       ∙ ap (λ told. if list_any is_tester_request told then e.micros else time) (tells_no_message rules T e seen is none) in
       ap₂ (λ now M. option_map (λ request. asked_at request now) (open_request M)) later (completes_none rules T e seen is none)
-
--- a message that begins an exchange is a request
-pub begins_as_request : (o : Option ℕ) (m : Message) → Begins (step_of o m) → is_tester_request m ≡ true
-begins_as_request o m begins = elim (cases_Bool (is_tester_request m)) [ inl e ↦ e | inr e ↦ absurd (no_request o m e begins) ]
-  where
-    no_other : (final pending : Bool) (service : ℕ)
-        → (if final then becomes.Answer else if pending then becomes.Removed else becomes.Hold) ≡ becomes.Request service → ⊥
-    no_other true pending service is = absurd (cc is)
-    no_other false true service is = absurd (cc is)
-    no_other false false service is = absurd (cc is)
-
-    no_request : (o : Option ℕ) (m : Message) → is_tester_request m ≡ false → Begins (step_of o m) → ⊥
-    no_request None m none (service, is) = absurd (cc (none, is))
-    no_request (Some open_sid) m none (service, is) = no_other _ _ service (rw none at is)

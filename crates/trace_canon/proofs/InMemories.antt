@@ -1,5 +1,5 @@
 -- What each call over devices answers, where the log lies in memory and its text is gathered there.
-use Rattle.std.proofs.Common.{◌≡◌, ◌≢◌, ◌⊎◌, inl, inr, ℕ, ◌<◌, false, Some, List, [], ◌∷◌, ◌++◌, length, length-append, append-nil, append_assoc}
+use Rattle.std.proofs.Common.{◌≡◌, ◌≢◌, ◌⊎◌, inl, inr, ℕ, ◌<◌, false, List, [], ◌++◌, length, append-nil}
 use Rattle.std.proofs.Common.{Result, Ok, Err, arith, refl, ap, sym, subst, ◌∙◌}
 use Rattle.std.specs.Prelude.{MatchResult, IfErr}
 use Rattle.isotp_receive.specs.Trace.{Entry}
@@ -21,22 +21,19 @@ use Rattle.trace_canon.specs.InMemory.{NeedsMemoryForCanonicalLog, NeedsMemoryFo
 use Rattle.trace_canon.specs.InMemory.{MeansInMemory, IsExplanationWith}
 use Rattle.trace_canon.specs.InMemory.{ComparesWithCounts, counted_comparison, fault_in_memory}
 use Rattle.trace_log.specs.CanonicalLog.{canonical_log_of_lines}
-use Rattle.trace_log.specs.Needing.{HasFrame, HasTextOf, IsKeptOrMasked}
-use Rattle.trace_log.specs.Trace.{trace}
+use Rattle.trace_log.specs.Needing.{HasTextOf}
 use Rattle.trace_log.specs.Refusal.{CountsAsBad}
 use Rattle.trace_log.specs.Outcome.{Accepted, IsOutcome}
-use Rattle.trace_canon.specs.MemoryNeeded.{NeedsMemoryToCollect, NeedsMemoryToOrder, messages_needs}
-use Rattle.trace_canon.specs.MessagesScript.{delivered_line, left_line, messages_script}
+use Rattle.trace_canon.specs.MemoryNeeded.{NeedsMemoryToCollect, NeedsMemoryToOrder}
+use Rattle.trace_canon.specs.MessagesScript.{messages_script}
 use Rattle.trace_canon.specs.WrittenAtEnd.{LeavesAtEnd, TextOfLog, WritesAtEnd}
 use Rattle.trace_log.specs.Settings.{Settings, without_rules}
-use Rattle.trace_run.specs.Script.{Command, Needing, RefusalText, answers_counts, command, says_no_refusal}
-use Rattle.trace_run.specs.Script.{Script, said_after, said_of_frames, said_of_lines, whole_of_lines}
+use Rattle.trace_run.specs.Script.{Command, Needing, RefusalText, answers_counts, command, needs_none, says_no_refusal}
+use Rattle.trace_run.specs.Script.{Script, said_of_lines, whole_of_lines}
 use Rattle.trace_run.specs.Stopping.{CantBeRead}
 use Rattle.trace_run.specs.AnswersAndWrites.{AnswersAndWrites, FailsToWrite}
 use Rattle.trace_run.proofs.Promises.{unread_for}
-use Rattle.uds_rules.specs.Rule.{RuleValue}
 use Rattle.trace_text.specs.declared.notation.Notation.{Notation}
-use Rattle.trace_text.specs.declared.notation.Notation.TheVariants.{Text, Json}
 use Rattle.trace_log.proofs.Promises.{all_begin}
 use Rattle.trace_canon.proofs.GatheredTexts.{RanInMemory, known, reads_well}
 
@@ -101,24 +98,24 @@ abbrev says_no_end : List Entry → Summary → List ℕ
 says_no_end T summary = []
 
 -- a write failed only where something is said of the first lines, if nothing is said at the end
-said_some : (of_frame : List Entry → Entry → List ℕ) (needs : Needing) (limit : ℕ) (settings : Settings) (log : List ℕ) (given : ℕ)
+said_some : (of_frame : List Entry → Entry → List ℕ) (limit : ℕ) (settings : Settings) (log : List ℕ) (given : ℕ)
     (old new : List ℕ)
-    → FailsToWrite (command (lenient of_frame says_no_end) says_no_refusal answers_counts needs)
+    → FailsToWrite (command (lenient of_frame says_no_end) says_no_refusal answers_counts needs_none)
     limit settings log given old new
     → HasTextOf (said_of_lines (lenient of_frame says_no_end) settings) log
-said_some of_frame needs limit settings log given old new (inl (wrote, inl said)) = record {
+said_some of_frame limit settings log given old new (inl (wrote, inl said)) = record {
   meanings = said.meanings;
   begins = record { lines = said.read.lines; later = said.read.later; parts = said.read.parts; means = said.read.means };
   some = said.some;
 }
-said_some of_frame needs limit settings log given old new (inl (wrote, inr ends)) = record {
+said_some of_frame limit settings log given old new (inl (wrote, inr ends)) = record {
   meanings = ends.meanings;
   begins = all_begin log ends.meanings ends.read.1;
   some =
       subst (λ (text : List ℕ). 0 < length text)
       (append-nil (said_of_lines (lenient of_frame says_no_end) settings ends.meanings)) ends.some;
 }
-said_some of_frame needs limit settings log given old new (inr refuses) = absurd (omega (arith, refuses.some))
+said_some of_frame limit settings log given old new (inr refuses) = absurd (omega (arith, refuses.some))
 
 -- the command of these texts, which is not strict
 abbrev pub lenient_command : (List Entry → Entry → List ℕ) → (List Entry → Summary → List ℕ) → RefusalText → Needing → Command Summary
@@ -149,63 +146,13 @@ module _ (of_frame : List Entry → Entry → List ℕ) (at_the_end : List Entry
       (λ why. unwritten
       (subst (λ (f : Fault). AnswersAndWrites (lenient_command of_frame at_the_end refusal needs) limit settings log given (Err f) old taken) why is))
 
--- something is said of frames where it is of the last one
-last_said : (of_frame : List Entry → Entry → List ℕ) (past T : List Entry) (e : Entry) → 0 < length (of_frame (past ++ T) e)
-    → 0 < length (said_after of_frame past (T ++ e ∷ []))
-last_said of_frame past [] e some =
-    let front : of_frame (past ++ []) e ≡ of_frame past e ++ [] =
-    ap (λ (before : List Entry). of_frame before e) (append-nil past) ∙ sym (append-nil (of_frame past e)) in
-    subst (λ (text : List ℕ). 0 < length text) front some
-last_said of_frame past (x ∷ T) e some =
-    let later = last_said of_frame (past ++ x ∷ []) T e
-    (subst (λ (before : List Entry). 0 < length (of_frame before e)) (sym (append_assoc past (x ∷ []) T)) some) in
-    let whole = length-append (of_frame past x) (said_after of_frame (past ++ x ∷ []) (T ++ e ∷ [])) in
-    omega (arith, later, whole)
-
--- the line of a message that a request is kept for has bytes
-kept_said : (notation : Notation) (limit : ℕ) (rules : List RuleValue) (T : List Entry) (e : Entry)
-    → messages_needs notation limit rules T e → 0 < length ((messages_script notation limit rules).of_frame T e)
-kept_said Text limit rules T e none = absurd none
-kept_said Json limit rules T e (whole, bytes, did, made, is) =
-    let line = ap (delivered_line Json limit rules T e) did ∙ ap (left_line Json limit rules T e) made in
-    let some : 0 < length (left_line Json limit rules T e (Some bytes)) = omega arith in
-    subst (λ (text : List ℕ). 0 < length text) (sym line) some
-
--- memory that is needed to keep a request is needed for its line
-pub message_lines_need : (notation : Notation) (limit : ℕ) (settings : Settings) (log : List ℕ)
-    → HasFrame (λ T e. IsKeptOrMasked limit settings.rules T e ⊎ messages_needs notation limit settings.rules T e) settings log
-    → NeedsMemoryForMessageLines notation limit settings log
-message_lines_need notation limit settings log has = by has.holds
-  where
-    by : IsKeptOrMasked limit settings.rules (trace settings has.before) has.frame
-        ⊎ messages_needs notation limit settings.rules (trace settings has.before) has.frame → NeedsMemoryForMessageLines notation limit settings log
-    by (inl received) = inl (record {
-      before = has.before;
-      line = has.line;
-      frame = has.frame;
-      begins = has.begins;
-      own = has.own;
-      holds = received;
-    })
-    by (inr kept) =
-        let of_frame = (messages_script notation limit settings.rules).of_frame in
-        inr (record {
-          meanings = has.before ++ has.line ∷ [];
-          begins = has.begins;
-          some = subst (λ (T : List Entry). 0 < length (said_of_frames of_frame T)) (sym has.own)
-              (last_said of_frame [] (trace settings has.before) has.frame
-              (kept_said notation limit settings.rules (trace settings has.before) has.frame kept));
-        })
-
 -- the lines of messages
 pub message_lines_in_memory : (notation : Notation) (limit : ℕ) (settings : Settings) (log : List ℕ) (given : ℕ)
     (old new : List ℕ)
-    → FailsToWrite (command (messages_script notation limit settings.rules) says_no_refusal answers_counts
-    (messages_needs notation limit settings.rules))
+    → FailsToWrite (command (messages_script notation limit settings.rules) says_no_refusal answers_counts needs_none)
     limit settings log given old new → NeedsMemoryForMessageLines notation limit settings log
 message_lines_in_memory notation limit settings log given old new fails =
-    inr (said_some ((messages_script notation limit settings.rules).of_frame) (messages_needs notation limit settings.rules)
-    limit settings log given old new fails)
+    inr (said_some ((messages_script notation limit settings.rules).of_frame) limit settings log given old new fails)
 
 -- whether a refused place of a log counts, and why a log can't be read, is no matter of rules
 bad_under : (settings : Settings) (log : List ℕ) (line column : ℕ) → CountsAsBad (without_rules settings) log line column

@@ -10,7 +10,7 @@ use Rattle.trace_text.specs.ItemLines.{item_object, worded_line}
 use Rattle.trace_canon.specs.declared.comparer.Compared.{Compared}
 use Rattle.trace_canon.specs.declared.comparer.Comparison.{Comparison}
 use Rattle.trace_canon.specs.declared.comparer.Comparison.TheVariants.{Same, Different}
-use Rattle.trace_canon.specs.declared.comparison_text.ComparisonStyle.{ComparisonStyle}
+use Rattle.trace_text.specs.declared.comparison_style.ComparisonStyle.{ComparisonStyle}
 use Rattle.trace_text.specs.declared.item_style.Numbering.TheVariants.{Shown}
 use Rattle.trace_text.specs.declared.notation.Notation.{Notation}
 use Rattle.trace_text.specs.declared.notation.Notation.TheVariants.{Text, Json}

@@ -6,8 +6,8 @@ use Rattle.uds_find.specs.Finding.{IdText}
 use Rattle.std.specs.Prelude.{ℕ, List, [], ◌∷◌, ◌++◌, Option, Some, None, codes, take}
 use Rattle.std.specs.Fmt.{decimal}
 use Rattle.std.specs.List.{flat_map}
-use Rattle.trace_canon.specs.declared.credit_lines.CreditStyle.{CreditStyle}
-use Rattle.trace_canon.specs.declared.credit_lines.CreditStyle.TheVariants.{Lines, Profile}
+use Rattle.trace_text.specs.declared.credit_style.CreditStyle.{CreditStyle}
+use Rattle.trace_text.specs.declared.credit_style.CreditStyle.TheVariants.{Lines, Profile}
 use Rattle.trace_text.specs.declared.notation.Notation.{Notation}
 use Rattle.trace_text.specs.declared.notation.Notation.TheVariants.{Text, Json}
 use Rattle.trace_text.specs.Json.{Members, nothing, member, object_line}

@@ -5,7 +5,7 @@ use Rattle.can_log.specs.declared.frame.Stamped.{Stamped}
 use Rattle.isotp_receive.specs.declared.TheConstants.{MESSAGE_LIMIT}
 use Rattle.trace_log.specs.declared.fault.Fault.{Fault}
 use Rattle.trace_canon.specs.declared.hearer.FoundCreditLines.{FoundCreditLines}
-use Rattle.trace_canon.specs.declared.credit_lines.CreditStyle.{CreditStyle}
+use Rattle.trace_text.specs.declared.credit_style.CreditStyle.{CreditStyle}
 use Rattle.trace_log.specs.declared.summary.Summary.{Summary}
 use Rattle.trace_log.specs.ReadAs.{IsReadAs}
 use Rattle.trace_canon.specs.CreditLines.{credit_lines_text}

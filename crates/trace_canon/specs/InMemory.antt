@@ -19,7 +19,7 @@ use Rattle.trace_canon.specs.ExplainScript.{explain_script}
 use Rattle.trace_canon.specs.Finding.{IsFoundIn}
 use Rattle.trace_canon.specs.MemoryNeeded.{NeedsMemoryToCollect, NeedsMemoryToFind, NeedsMemoryToOrder}
 use Rattle.trace_canon.specs.CreditLines.{credit_lines_text}
-use Rattle.trace_canon.specs.declared.credit_lines.CreditStyle.TheVariants.{Lines}
+use Rattle.trace_text.specs.declared.credit_style.CreditStyle.TheVariants.{Lines}
 use Rattle.trace_text.specs.ItemLines.{list_text}
 use Rattle.trace_log.specs.CanonicalLog.{canonical_log_of_lines}
 use Rattle.trace_log.specs.Needing.{HasTextOf, NeedsMemoryToReceive}

@@ -11,16 +11,8 @@ use text_parts::{Part, say};
 use trace_io::{Target, TextSink};
 use trace_log::Fault;
 use trace_run::print;
-use trace_text::{Notation, Ordinal};
+use trace_text::{ComparisonStyle, Notation, Ordinal};
 use uds_rules::Rules;
-
-/// How a comparison is written.
-#[derive(Clone, Copy, Debug, PartialEq, Eq)]
-pub struct ComparisonStyle {
-    /// Whether the items are shown at which two logs differ.
-    pub shows_items: bool,
-    pub notation: Notation,
-}
 
 /// Writes how two logs compare, in this style; their messages are as these rules left them.
 ///

@@ -7,20 +7,11 @@ ghost use Rattle.trace_canon.specs.CreditLines.{answered_comment, unit_head, uni
 use crate::functional_parts::{FunctionalKey, FunctionalMember, FunctionalOption};
 use text_parts::say;
 use trace_io::TextSink;
-use trace_text::{Notation, Number, Verbatim};
+use trace_text::{CreditStyle, Notation, Number, Verbatim};
 use uds_find::CreditLine;
 
 /// How many units a profile may have behind its first: 64 in all.
 const MOST_LATER_UNITS: usize = 63;
-
-/// How credit lines are written.
-#[derive(Clone, Copy, Debug, PartialEq, Eq)]
-pub enum CreditStyle {
-    /// Each as a line.
-    Lines(Notation),
-    /// The first 64 as the units of a profile, in TOML.
-    Profile,
-}
 
 /// Says credit lines, in order.
 pub(crate) fn say_credit_lines<S: TextSink>(lines: &[CreditLine], style: CreditStyle, out: &mut S)

@@ -4,13 +4,14 @@ ghost use Rattle.trace_canon.specs.Finding.{RanToFind};
 ghost use Rattle.trace_io.specs.Counted.{IsLowCount};
 ghost use Rattle.trace_log.specs.Devices.{HasLowCounts};
 
-use crate::credit_lines::{CreditStyle, say_credit_lines};
+use crate::credit_lines::say_credit_lines;
 use crate::hearer::found_in;
 use std::alloc::Global;
 use text_parts::Part;
 use trace_io::{Source, Target, TextSink};
 use trace_log::{Config, Fault, Summary};
 use trace_run::print;
+use trace_text::CreditStyle;
 use uds_find::CreditLine;
 
 /// Reads a log, and then writes its credit lines in this style. Of the configuration `max_bytes` alone counts.

@@ -11,7 +11,6 @@ ghost use Rattle.trace_canon.specs.InMemory as Spec;
 
 use crate::collector::meaning_of;
 use crate::comparer::{Compared, Comparison, compare};
-use crate::credit_lines::CreditStyle;
 use crate::explainer::explain;
 use crate::finder::find;
 use crate::lister::list;
@@ -20,7 +19,7 @@ use crate::normaliser::normalise;
 use std::alloc::Global;
 use trace_io::{Bytes, Writing};
 use trace_log::{CompareFault, Config, Fault, Summary};
-use trace_text::{ItemStyle, Notation};
+use trace_text::{CreditStyle, ItemStyle, Notation};
 use uds_exchange::Meaning;
 
 /// A text about a log, and the counts of the log.

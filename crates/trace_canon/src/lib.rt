@@ -79,8 +79,7 @@ mod watcher;
 
 pub use collector::{Session, meaning_of};
 pub use comparer::{Compared, Comparison, compare};
-pub use comparison_text::{ComparisonStyle, write_comparison};
-pub use credit_lines::CreditStyle;
+pub use comparison_text::write_comparison;
 pub use explainer::explain;
 pub use finder::find;
 pub use item_text::{ItemText, write_items};

@@ -2,14 +2,12 @@
 //! of its last one, which are where these stand in the log; as JSON, of a reply also how long after its request it came.
 
 ghost use Rattle.isotp_receive.specs.declared.TheConstants.{MESSAGE_LIMIT};
-ghost use Rattle.std.specs.Prelude.{◌≡◌, [], OnOk, OnErr};
-ghost use Rattle.uds_exchange.specs.proving.Deciding.{Begins};
-ghost use Rattle.trace_canon.specs.MemoryNeeded.{messages_needs};
+ghost use Rattle.std.specs.Prelude.{◌≡◌};
 ghost use Rattle.trace_canon.specs.MessagesScript.{judged_at, placed_line, placed_members, messages_script};
 ghost use Rattle.trace_canon.specs.OpenRequests.{reply_behind};
 ghost use Rattle.trace_canon.specs.proving.Asking.{asked_with};
 ghost use Rattle.trace_text.specs.Json.{object_line};
-ghost use Rattle.trace_run.specs.Script.{answers_counts, command, says_no_refusal};
+ghost use Rattle.trace_run.specs.Script.{answers_counts, command, needs_none, says_no_refusal};
 ghost use Rattle.trace_run.specs.Ran.{RanLenient};
 ghost use Rattle.trace_io.specs.Counted.{IsLowCount};
 ghost use Rattle.trace_log.specs.Devices.{HasLowCounts};
@@ -31,7 +29,8 @@ use uds_rules::Rules;
 /// Reads a log and writes a line for each message that is delivered and that rules leave, as it comes, in words or as
 /// an object of JSON: the number that [`list`](crate::list) gives its item, its role in that item, its direction, the
 /// lines and the time stamps of its first frame and its last one, and its bytes. An object also tells of a reply how long
-/// after its request it came, and of an answer that it is other than was asked; for that alone the open request is kept.
+/// after its request it came, and of an answer that it is other than was asked; for that alone the open request is kept, in
+/// place.
 ///
 /// The target is not flushed.
 pub fn messages<R: Source, W: Target>(
@@ -46,35 +45,33 @@ pub fn messages<R: Source, W: Target>(
 
     // What is answered and written; that it is written before more is read; and what was done with the devices.
     ensures ran { RanLenient R.Source W.Target
-        (command (messages_script notation MESSAGE_LIMIT config.now.rules) says_no_refusal answers_counts
-        (messages_needs notation MESSAGE_LIMIT config.now.rules))
+        (command (messages_script notation MESSAGE_LIMIT config.now.rules) says_no_refusal answers_counts needs_none)
         config.now source.old target.old result source.new target.new }
 {
     let machine = Messenger {
         notation,
         rules: config.rules(),
         starts: ReceptionStarts::start(),
-        asking: OpenRequest::none(alloc),
+        asking: OpenRequest::none(),
     };
     run_lenient(alloc, config, machine, source, target)
 }
 
-/// Says the line of each message. In words it keeps no message.
+/// Says the line of each message. It takes no memory.
 #[derive(Drop)]
 pub(crate) struct Messenger<'a> {
     pub notation: Notation,
     pub rules: &'a Rules,
     pub starts: ReceptionStarts,
-    /// The request that is open, of which objects tell.
+    /// What is kept of the request that is open, of which objects tell.
     pub asking: OpenRequest,
 }
 
 impl<'a> Machine for Messenger<'a> {
     ghost use Rattle.isotp_receive.specs.declared.TheConstants.{MESSAGE_LIMIT};
     ghost use Rattle.trace_canon.specs.proving.MessageSaying.{SaysMessages};
-    ghost use Rattle.trace_canon.specs.MemoryNeeded.{messages_needs};
     ghost use Rattle.trace_canon.specs.MessagesScript.{messages_script};
-    ghost use Rattle.trace_run.specs.Script.{answers_counts};
+    ghost use Rattle.trace_run.specs.Script.{answers_counts, needs_none};
 
     type Answer = Summary;
 
@@ -85,7 +82,7 @@ impl<'a> Machine for Messenger<'a> {
 
     ghost answers = { λ rules start. answers_counts };
 
-    ghost needs = { λ rules start. messages_needs start.notation MESSAGE_LIMIT rules };
+    ghost needs = { λ rules start. needs_none };
 
     #[inline(always)]
     fn is_strict(&self) -> bool {
@@ -113,7 +110,8 @@ impl<'a> Machine for Messenger<'a> {
                 Ok(())
             }
             Notation::Json => {
-                say_next_object(self.rules, &mut self.asking, &message, extent, out)
+                say_next_object(self.rules, &mut self.asking, &message, extent, out);
+                Ok(())
             }
         }
     }
@@ -136,27 +134,23 @@ impl<'a> Machine for Messenger<'a> {
     ) {}
 }
 
-/// Says the object of the next message, with what is told of it as a reply to the open request. Where memory is refused,
-/// nothing is said.
+/// Says the object of the next message, with what is told of it as a reply to the open request.
 fn say_next_object<S: TextSink>(
     rules: &Rules,
     asking: &mut OpenRequest,
     message: &Judged<'_>,
     extent: FrameExtent,
     out: &mut S,
-) -> Result<(), AllocError>
-    ensures now { OnOk result (asking.new ≡ asked_with message.now.step asking.old message.now.bytes.now extent.last.micros) }
-    ensures says { OnOk result (S.says out.old
+)
+    ensures now { asking.new ≡ asked_with message.now.step asking.old message.now.bytes.now extent.last.micros }
+    ensures says { S.says out.old
         (object_line (placed_members rules.now (judged_at message.now extent)
         (reply_behind rules.now asking.old message.now.step message.now.bytes.now)))
-        out.new) }
-    ensures needs { OnErr result (Begins message.now.step) }
-    ensures err { OnErr result (S.says out.old [] out.new) }
+        out.new }
 {
     let reply = asking.reply(rules, message);
-    asking.take(message, extent.last.micros)?;
+    asking.take(message, extent.last.micros);
     say_message_object(rules, message, extent, reply, out);
-    Ok(())
 }
 
 /// Says the line of a message in words.

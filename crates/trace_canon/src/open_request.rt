@@ -1,44 +1,43 @@
 //! The request that is open, with its time, for what is told of the replies to it.
 
-ghost use Rattle.std.specs.Prelude.{◌≡◌, None, OnOk, OnErr, option_map};
-ghost use Rattle.uds_exchange.specs.proving.Deciding.{Begins};
+ghost use Rattle.std.specs.Prelude.{◌≡◌, None, option_map};
 ghost use Rattle.trace_canon.specs.MessagesScript.{reply_value};
 ghost use Rattle.trace_canon.specs.OpenRequests.{reply_behind};
 ghost use Rattle.trace_canon.specs.proving.Asking.{asked_with};
 
 use crate::message_parts::ToldReply;
-use std::alloc::{AllocError, Global};
+use asked_request::AskedRequest;
 use std::marker::Model;
 use uds_echo::answers_other;
 use uds_exchange::{Judged, Step};
 use uds_rules::Rules;
 
-/// The request that is open, if one is. Its memory is kept for later ones.
+/// What is kept of the request that is open, if one is.
 #[derive(Drop)]
 pub(crate) struct OpenRequest {
     /// The time of its last frame in microseconds.
     asked: Option<u64>,
-    /// Its bytes, or those of the last one.
-    bytes: Vec<u8>,
+    /// What is kept of it, or of the last one.
+    kept: AskedRequest,
 }
 
 impl Model for OpenRequest {
     ghost use Rattle.std.specs.Prelude.{Option, option_map};
-    ghost use Rattle.trace_canon.specs.OpenRequests.{AskedRequest, asked_at};
+    ghost use Rattle.trace_canon.specs.OpenRequests.{KeptRequest, kept_at};
 
-    ghost Value = { Option AskedRequest };
+    ghost Value = { Option KeptRequest };
 
-    ghost view = { λ r. option_map (λ micros. asked_at r.bytes.items micros) r.asked };
+    ghost view = { λ r. option_map (λ micros. kept_at r.kept micros) r.asked };
 }
 
 impl OpenRequest {
-    /// None is. It takes no memory.
-    pub(crate) fn none(alloc: Global) -> OpenRequest
+    /// None is.
+    pub(crate) fn none() -> OpenRequest
         ensures { result ≡ None }
     {
         OpenRequest {
             asked: None,
-            bytes: Vec::new(alloc),
+            kept: AskedRequest::none(),
         }
     }
 
@@ -50,7 +49,7 @@ impl OpenRequest {
         match message.step {
             Step::Answer => Some(ToldReply {
                 asked,
-                is_other: answers_other(rules, self.bytes.as_slice(), message.bytes),
+                is_other: answers_other(rules, self.kept.bytes(), message.bytes),
             }),
             Step::Removed => Some(ToldReply {
                 asked,
@@ -60,23 +59,17 @@ impl OpenRequest {
         }
     }
 
-    /// Takes one more message, whose last frame has this time. Memory is taken for a request alone.
-    pub(crate) fn take(&mut self, message: &Judged<'_>, micros: u64) -> Result<(), AllocError>
-        ensures now { OnOk result (self.new ≡ asked_with message.now.step self.old message.now.bytes.now micros) }
-        ensures needs { OnErr result (Begins message.now.step) }
+    /// Takes one more message, whose last frame has this time.
+    pub(crate) fn take(&mut self, message: &Judged<'_>, micros: u64)
+        ensures { self.new ≡ asked_with message.now.step self.old message.now.bytes.now micros }
     {
         match message.step {
             Step::Request(_) => {
-                self.bytes.clear();
-                self.bytes.extend_from_slice(message.bytes)?;
+                self.kept.keep(message.bytes);
                 self.asked = Some(micros);
-                Ok(())
             }
-            Step::Answer => {
-                self.asked = None;
-                Ok(())
-            }
-            Step::Removed | Step::Hold | Step::Pass => Ok(()),
+            Step::Answer => self.asked = None,
+            Step::Removed | Step::Hold | Step::Pass => {}
         }
     }
 }

@@ -27,6 +27,8 @@ mod Beside
 mod OwnItems
 mod FirstChanges
 mod Agreeing
+pub mod LongerWalk
+mod LongerLinks
 mod ChartRequests
 mod ChartItems
 mod DifferingOutcomes

@@ -26,6 +26,7 @@ use Rattle.trace_pair.specs.ItemWords.{came_of, differ, outcome_mark, same_outco
 use Rattle.pair_words.specs.Logs.{has_item, letter_mark}
 use Rattle.trace_pair.specs.PartedRoles.{parted_role_words}
 use Rattle.trace_pair.specs.Losses.{losses_of, losses_text}
+use Rattle.trace_pair.specs.RowTimes.{longer_mark, row_times}
 use Rattle.trace_pair.specs.ToldItems.{note_of, told_answer, told_item}
 
 -- rules mask one of two messages that they have left
@@ -189,11 +190,12 @@ abbrev pub top_of : List RuleValue → Option Begun → Row → Option PlacedIte
 top_of rules None kind one other = []
 top_of rules (Some begun) kind one other = top rules begun.number begun.all kind begun.count one other
 
--- a row of the table: its numbers, the change that begins with it, its items, when they were, and what is missing of
--- them
+-- a row of the table: its numbers, what the verdict links to, the change that begins with it, its items, when they were,
+-- and what is missing of them
 abbrev pub row_text : SessionValue → SessionValue → RowPlace → Option Begun → List ℕ
 row_text left right place begun =
     row_start place.kind (begun_number begun) ++ numbers place.kind place.left place.right
+    ++ longer_mark (row_times (row_item A left place) (row_item B right place)) place.left
     ++ top_of left.rules begun place.kind (row_item A left place) (row_item B right place)
     ++ codes "<div class=\"it\">" ++ told left.rules place.kind (row_item A left place) (row_item B right place)
     ++ codes "</div><div class=\"ab\">" ++ note_if A left.first (row_item A left place) ++ codes " " ++ note_if B right.first (row_item B right place)

@@ -5,6 +5,7 @@ pub mod Losses
 pub mod PartedRoles
 pub mod ItemWords
 pub mod ToldItems
+pub mod RowTimes
 pub mod Style
 pub mod Titles
 pub mod Help
@@ -16,6 +17,7 @@ pub mod Differences
 pub mod Counterparts
 pub mod FirstDifference
 pub mod ItemRows
+pub mod LongerAnswers
 pub mod RowStretches
 pub mod Widths
 pub mod ItemTables
@@ -29,4 +31,5 @@ pub mod ChartLaws
 pub mod OutcomeLaws
 pub mod TableLaws
 pub mod LinkLaws
+pub mod LongerLaws
 pub mod proving

@@ -26,6 +26,7 @@ use Rattle.trace_pair.specs.Differences.{list_text}
 use Rattle.trace_pair.specs.FirstDifference.{first_text}
 use Rattle.trace_pair.specs.Help.{pair_help_text}
 use Rattle.trace_pair.specs.ItemTables.{items_text}
+use Rattle.trace_pair.specs.LongerAnswers.{longer_in, longer_lines, some_longer}
 use Rattle.pair_words.specs.Logs.{letter, lettered_name}
 use Rattle.trace_pair.specs.PairRules.{rules_of_both, uncounted_rules}
 use Rattle.trace_pair.specs.Recordings.{recordings}
@@ -78,9 +79,10 @@ counts_section title left right =
 abbrev pub body : TitleValue → Bool → ℕ → List Row → SessionValue → SessionValue → List ℕ
 body title shortest bound rows left right =
     pair_front title left.rules (length (changes rows)) ++ rules_of_both left right ++ verdict shortest bound rows left right
+    ++ longer_lines left (longer_in A left right rows) (longer_in B left right rows)
     ++ recordings title.left title.right left right ++ codes "</section>\n<main>\n"
     ++ list_text left right (changes rows) ++ first_text title.left title.right left right rows ++ items_text left right rows
-    ++ counts_section title left right ++ codes "</main>\n" ++ pair_help_text
+    ++ counts_section title left right ++ codes "</main>\n" ++ pair_help_text (some_longer (longer_in A left right rows) (longer_in B left right rows))
 
 -- the page of two sessions: its rows are those of their difference
 abbrev pub page_of : TitleValue → SessionValue → SessionValue → List ℕ
@@ -104,7 +106,7 @@ refused_page title log why cause =
     pair_front title title.rules 0 ++ uncounted_rules title.rules ++ verdict_front (codes "bad") (codes "&#10005;") ++ letter log
     ++ codes " is refused, so nothing is compared</h2>\n<p><em>" ++ refusal_words why
     ++ codes ".</em>" ++ before_words why ++ codes "</p>\n" ++ cause_line cause
-    ++ codes "</section>\n<main>\n<section id=\"items\">\n<h2>Items</h2>\n<p>Nothing is compared.</p>\n</section>\n</main>\n" ++ pair_help_text
+    ++ codes "</section>\n<main>\n<section id=\"items\">\n<h2>Items</h2>\n<p>Nothing is compared.</p>\n</section>\n</main>\n" ++ pair_help_text false
 
 -- a line or the limit refuses the log; no other fault has a page
 abbrev pub has_page : Fault → Bool

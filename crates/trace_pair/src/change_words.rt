@@ -213,7 +213,7 @@ fn say_run<S: TextSink>(
 
 /// The title of an item, if there is one.
 #[derive(Clone, Copy)]
-struct TitleIf<'a>(&'a Rules, Option<Item<'a>>);
+pub(crate) struct TitleIf<'a>(pub &'a Rules, pub Option<Item<'a>>);
 
 impl<'a> Part for TitleIf<'a> {
     ghost use Rattle.std.specs.Prelude.{option_map};

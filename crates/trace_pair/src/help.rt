@@ -1,31 +1,31 @@
 //! The end of a page of two logs.
 
-use text_parts::{Part, say};
+use text_parts::{Either, Part, say};
 use trace_io::TextSink;
 use trace_report::{HelpHeading, Legend, Limits, Tail};
 
-/// How to read the page, and the sign that it is whole.
+/// How to read the page, on which answers took much longer in one log or none did, and the sign that it is whole.
 #[derive(Clone, Copy)]
-pub(crate) struct PairHelp;
+pub(crate) struct PairHelp(pub bool);
 
 impl Part for PairHelp {
     ghost use Rattle.trace_pair.specs.Help.{pair_help_text};
 
-    ghost text = { λ help. pair_help_text };
+    ghost text = { λ help. pair_help_text help.0 };
 
     fn say<S: TextSink>(self, out: &mut S) {
-        say(out, (PairHelpFront, Legend, Limits, Tail));
+        say(out, (PairHelpFront(self.0), Legend, Limits, Tail));
     }
 }
 
-/// What a page of two logs shows.
+/// What a page of two logs shows, on which answers took much longer in one log or none did.
 #[derive(Clone, Copy)]
-struct PairHelpFront;
+struct PairHelpFront(bool);
 
 impl Part for PairHelpFront {
     ghost use Rattle.trace_pair.specs.Help.{pair_help_front};
 
-    ghost text = { λ start. pair_help_front };
+    ghost text = { λ start. pair_help_front start.0 };
 
     fn say<S: TextSink>(self, out: &mut S) {
         say(
@@ -33,7 +33,12 @@ impl Part for PairHelpFront {
             (
                 HelpHeading,
                 "<p>An item is a request with its answer, or a message that belongs to none. A and B are the two logs. Items that are the same in both stand side by side, as many as their order allows. <i>Changed</i> are two items with the same request, or else of the same service, that stand between the same others; their bytes stand under each other, <code>--</code> where one has none, and each byte that differs has a mark. A line of bytes that is the same in both stands once, behind <code>=</code>. The number before a line is that of its first byte; before <code>=</code> that in A, and that in B, where it is another one. Runs of items that are the same are folded, but for three before and three behind each difference: <code>udsnorm diff</code> shows the same rows. A red line in the row of an item tells what its log lacks there.</p>\n",
-                "<p>In a chart the left line is the tester, the right line the unit, and an arrow from one to the other is a message, however many frames carried it, in the order in which the messages were complete. An item has the time of its first message. Times are not compared. ",
+                "<p>In a chart the left line is the tester, the right line the unit, and an arrow from one to the other is a message, however many frames carried it, in the order in which the messages were complete. An item has the time of its first message. ",
+                Either(
+                    self.0,
+                    "Times are compared in the verdict alone: those of answers <i>after</i> their requests, but for any with a minus. ",
+                    "Times are not compared. ",
+                ),
                 "Times are in seconds from the first frame of the two identifiers in its own log, and those of a message are of its last frame; <i>after</i> is the time from the last frame of the request to the first frame of the reply, with a minus where the clock of the log went back.</p>\n",
             ),
         );

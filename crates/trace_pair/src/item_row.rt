@@ -7,6 +7,7 @@ ghost use Rattle.trace_pair.specs.ItemRows as Spec;
 use crate::change_top::TopIf;
 use crate::loss_words::say_losses;
 use crate::row_items::{ItemsOfRow, NoteIf};
+use crate::row_times::{LongerMark, row_times};
 use crate::sessions::Sessions;
 use pair_words::{DifferenceName, PairLog, has_item};
 use text_parts::{Part, say};
@@ -48,6 +49,7 @@ pub(crate) fn say_item_row<S: TextSink>(
         (
             RowStart(place.kind, begun),
             Numbers(place),
+            LongerMark(row_times(one, other), place.left),
             TopIf {
                 rules,
                 begun,
@@ -84,7 +86,7 @@ fn say_row_losses<S: TextSink>(
 }
 
 /// The item that a row has of a log, if it has one.
-fn row_item<'a>(
+pub(crate) fn row_item<'a>(
     log: PairLog,
     session: &'a KeptSession<'_>,
     place: RowPlace,

@@ -5,6 +5,7 @@ ghost use Rattle.trace_pair.specs.Laws.{AgreesWithCompare, ChangesAreOfCompariso
 ghost use Rattle.trace_pair.specs.ChartLaws.{ChartCountsTheRun, ChartHasTheItem};
 ghost use Rattle.trace_pair.specs.LinkLaws.{DifferencesAreTheChanges, LinksHaveTargets, LinksNameIdentifiers, LinksSpellIdentifiers, ListLeadsToTheTable};
 ghost use Rattle.trace_pair.specs.TableLaws.{EachItemStandsOnce, EachRowStandsOnce, UnfoldedRowsAreThoseOfHunks};
+ghost use Rattle.trace_pair.specs.LongerLaws.{LongerLinksHaveTargets};
 ghost use Rattle.trace_pair.specs.LossLaws.{EachLossStandsOnce, LossyWhereLost};
 ghost use Rattle.trace_pair.specs.OutcomeLaws.{UnansweredHasNone};
 ghost use Rattle.trace_pair.specs.RowLaws.{EachItemHasItsRow, HeadingCountsTheRows};
@@ -108,4 +109,9 @@ pub fn links_name_identifiers()
 /// What a link to a difference names is how the identifier of a row is spelled.
 pub fn links_spell_identifiers()
     ensures { LinksSpellIdentifiers }
+{}
+
+/// What the verdict tells of answers that took much longer in a log leads to the row of the slowest.
+pub fn longer_links_have_targets()
+    ensures { LongerLinksHaveTargets }
 {}

@@ -5,7 +5,7 @@
 //! [`in_memory`] answers of logs in memory with their page and the counts.
 //!
 //! ```text
-//! KeptSessions -> Aligned -> front, verdict, recordings, differences, first, item_tables, help -> page
+//! KeptSessions -> Aligned -> front, verdict, longer_words, recordings, differences, first, item_tables, help -> page
 //! ```
 //!
 //! The verdict says in how many places the sessions differ, and how far that can be known: a log that is not clean, a
@@ -27,6 +27,7 @@
 //! | what stands before the verdict, and behind all | `style`, `title`, `front`, `help` | `Style`, `Titles`, `Page`, `Help` |
 //! | the rules that the page is under | `pair_rules` | `PairRules` |
 //! | the verdict | `lossy_changes`, `same_words`, `verdict_words`, `verdict` | `Verdict` |
+//! | answers that took much longer in one log | `row_times`, `longer_answers`, `longer_words` | `RowTimes`, `LongerAnswers` |
 //! | what was found of each log | `recordings` | `Recordings` |
 //! | the list of the differences | `change_words`, `differences` | `ChangeWords`, `Differences` |
 //! | the first difference as recorded, and its charts | `counterparts`, `chart_rows`, `chart_bytes`, `chart`, `first` | `Counterparts`, `FirstDifference` |
@@ -34,7 +35,7 @@
 //! | the table: which rows are seen, and which are folded | `standing`, `widths`, `table_parts`, `folds`, `item_tables` | `RowStretches`, `Widths`, `ItemTables` |
 //! | the page, and that of a log that is refused | `page` | `Page` |
 //! | the page of two logs in memory, with the counts | [`in_memory`] | `InMemory` |
-//! | what holds of each page | [`laws`] | `Links`; `Laws` of all of it, and those of its parts: `RowLaws`, `LossLaws`, `ChartLaws`, `OutcomeLaws`, `TableLaws`, `LinkLaws` |
+//! | what holds of each page | [`laws`] | `Links`; `Laws` of all of it, and those of its parts: `RowLaws`, `LossLaws`, `ChartLaws`, `OutcomeLaws`, `TableLaws`, `LinkLaws`, `LongerLaws` |
 #![tactic(auto)]
 
 mod aligned;
@@ -57,6 +58,8 @@ mod item_row;
 mod item_tables;
 mod item_words;
 pub mod laws;
+mod longer_answers;
+mod longer_words;
 mod loss_words;
 mod losses;
 mod lossy_changes;
@@ -67,6 +70,7 @@ mod pair_rules;
 mod parted_roles;
 mod recordings;
 mod row_items;
+mod row_times;
 mod same_words;
 mod sessions;
 mod standing;

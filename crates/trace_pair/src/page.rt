@@ -12,6 +12,8 @@ use crate::first::say_first;
 use crate::front::PairFront;
 use crate::help::PairHelp;
 use crate::item_tables::say_items;
+use crate::longer_answers::longer_rows;
+use crate::longer_words::say_longer;
 use crate::pair_rules::{PairRules, UncountedRules};
 use crate::recordings::say_recordings;
 use crate::sessions::Sessions;
@@ -90,11 +92,13 @@ fn say_aligned<S: TextSink>(title: &Title<'_>, aligned: &Aligned<'_>, out: &mut 
     let sessions = aligned.sessions();
     let found = aligned.found();
     let rows = found.rows;
+    let longer = longer_rows(rows, sessions);
     let rules = sessions.left.rules();
     let front = PairFront(title, rules, count_changes(rows));
     let ruled = PairRules(rules, sessions.left.spoken(), sessions.right.spoken());
     say(out, (front, ruled));
     say_verdict(found, sessions, out);
+    say_longer(longer, sessions, out);
     say_recordings(title.left, title.right, sessions, out);
     say(out, "</section>\n<main>\n");
     say_differences(sessions, rows, out);
@@ -102,7 +106,7 @@ fn say_aligned<S: TextSink>(title: &Title<'_>, aligned: &Aligned<'_>, out: &mut 
     say_items(sessions, rows, out);
     say_both_counts(title, sessions, out);
     say(out, "</main>\n");
-    say(out, PairHelp);
+    say(out, PairHelp(longer.some()));
 }
 
 /// Says all counts of both logs.
@@ -175,7 +179,7 @@ fn say_unread<S: TextSink>(
                 "</p>\n",
                 CauseLine(cause),
                 "</section>\n<main>\n<section id=\"items\">\n<h2>Items</h2>\n<p>Nothing is compared.</p>\n</section>\n</main>\n",
-                PairHelp,
+                PairHelp(false),
             ),
         );
     }

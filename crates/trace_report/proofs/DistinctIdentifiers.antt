@@ -29,9 +29,11 @@ use Rattle.trace_report.specs.declared.sorts.Sort.{Sort}
 use Rattle.trace_report.specs.declared.sorts.Sort.TheVariants as sort
 use Rattle.trace_report.proofs.Distinct.{distinct-append, distinct-texts, each-of-first}
 use Rattle.trace_report.proofs.LineOrder.{grown-few, trace-grows}
+use Rattle.uds_rules.specs.Rule.{RuleValue}
 use Rattle.trace_report.proofs.RowPlaces.{ArePlaced, IsWithin, Leads, led_to}
 use Rattle.trace_report.proofs.RowTargets.{all-placed, rows-placed}
 use Rattle.trace_report.proofs.WaitedAnswers.{slowest-lead}
+use Rattle.trace_report.proofs.OtherAnswers.{others-lead}
 
 -- Different places have different identifiers.
 
@@ -195,8 +197,8 @@ module _ (kind : Sort) (leads : (place : LinkTarget) → led_to kind place ≡ S
   pub first-lead : (rows : List RowValue) → AllByRecursion (Leads places) rows → AllByRecursion (λ (place : LinkTarget). IsAmong place places) (take most_links (targets_of kind rows))
   first-lead rows lead = each-of-first (λ (place : LinkTarget). IsAmong place places) most_links (targets_of kind rows) (each-leads rows lead)
 
-has-each : (items lines sides : ℕ) (rows : List RowValue) → ArePlaced items lines sides rows → HasEachTarget rows
-has-each items lines sides rows are = record {
+has-each : (rules : List RuleValue) (items lines sides : ℕ) (rows : List RowValue) → ArePlaced items lines sides rows → HasEachTarget rules rows
+has-each rules items lines sides rows are = record {
   dropped = first-lead sort.Dropped (λ place. refl) (targets_in rows) rows are.lead;
   ended = first-lead sort.Ended (λ place. refl) (targets_in rows) rows are.lead;
   unfinished = first-lead sort.Unfinished (λ place. refl) (targets_in rows) rows are.lead;
@@ -204,6 +206,7 @@ has-each items lines sides rows are = record {
   unanswered = first-lead sort.Unanswered (λ place. refl) (targets_in rows) rows are.lead;
   strays = first-lead sort.Strays (λ place. refl) (targets_in rows) rows are.lead;
   slowest = slowest-lead (targets_in rows) rows are.lead;
+  others = others-lead rules (targets_in rows) rows are.lead;
 }
 
 pub links_have_targets : LinksHaveTargets
@@ -212,6 +215,6 @@ links_have_targets settings meanings =
     let lines = 1 + length meanings in
     let items = length (meaning (messages_under settings.rules MESSAGE_LIMIT T)) in
     let placed = rows-placed settings.rules T 1 lines (trace-grows settings 1 meanings) in (
-      has-each items lines 2 (all_rows MESSAGE_LIMIT settings.rules T) (all-placed settings.rules T lines placed),
-      has-each items lines 0 (rows_of MESSAGE_LIMIT settings.rules T) placed,
+      has-each settings.rules items lines 2 (all_rows MESSAGE_LIMIT settings.rules T) (all-placed settings.rules T lines placed),
+      has-each settings.rules items lines 0 (rows_of MESSAGE_LIMIT settings.rules T) placed,
     )

@@ -17,6 +17,7 @@ mod LineOrder
 mod RowPlaces
 mod RowTargets
 mod WaitedAnswers
+mod OtherAnswers
 mod DistinctIdentifiers
 pub mod PageStyle
 pub mod ToldAnswers

@@ -15,7 +15,7 @@ use Rattle.trace_report.specs.declared.targets.LinkTarget.{LinkTarget}
 use Rattle.trace_report.specs.proving.Tallying.{counts_with, first_with}
 
 -- the front of a list with one more element is known from its front
-take_one_more : (n : ℕ) (xs : List LinkTarget) (x : LinkTarget) → take n (take n xs ++ x ∷ []) ≡ take n (xs ++ x ∷ [])
+pub take_one_more : (n : ℕ) (xs : List LinkTarget) (x : LinkTarget) → take n (take n xs ++ x ∷ []) ≡ take n (xs ++ x ∷ [])
 take_one_more zero xs x = refl
 take_one_more (suc n) [] x = refl
 take_one_more (suc n) (y ∷ xs) x = ap (λ rest. y ∷ rest) (take_one_more n xs x)
@@ -72,7 +72,7 @@ first_by targets = record {
   strays = record { items = take most_links (targets sort.Strays) };
 }
 
-one_longer : (xs : List LinkTarget) (x : LinkTarget) → length xs < 2 ^ 64 - 1 → one_more (length xs) ≡ length (xs ++ x ∷ [])
+pub one_longer : (xs : List LinkTarget) (x : LinkTarget) → length xs < 2 ^ 64 - 1 → one_more (length xs) ≡ length (xs ++ x ∷ [])
 one_longer xs x few = rw (length-append xs (x ∷ [])) (omega arith)
 
 module _ (targets : Sort → List LinkTarget) (target : LinkTarget) where

@@ -1,5 +1,5 @@
 -- The counts of a report: of the log, of its items, and of what is missing.
-use Rattle.std.specs.Prelude.{ℕ, ◌==◌, not, Bool, false, List, [], ◌++◌, codes, if◌then◌else◌}
+use Rattle.std.specs.Prelude.{ℕ, true, ◌==◌, not, Bool, false, List, [], ◌++◌, codes, if◌then◌else◌}
 use Rattle.std.specs.Fmt.{decimal}
 use Rattle.trace_report.specs.Sorts.{needs_attention}
 use Rattle.trace_report.specs.declared.tally.SortCounts.{SortCounts}
@@ -53,7 +53,16 @@ lost_counts counts =
     sort_count sort.Dropped (codes "dropped") counts.dropped ++ sort_count sort.Ended (codes "ended") counts.ended
     ++ sort_count sort.Unfinished (codes "unfinished") counts.unfinished
 
--- all counts of a page: of the log, of its items, and of what is missing
+-- how many answers are other than was asked, where one is
+abbrev pub other_answers_count : ℕ → List ℕ
+other_answers_count count = if not (count == 0) then count_line true (codes "other than asked") count else []
+
+-- all counts of a page: of the log, of its items, with how many answers are other than was asked, and of what is missing
+abbrev pub counts_with : ℕ → SortCounts → Summary → List ℕ
+counts_with others counts summary =
+    codes "<dl class=\"counts\">\n" ++ log_counts summary ++ answer_counts counts ++ other_answers_count others ++ other_counts counts
+    ++ lost_counts counts ++ codes "</dl>\n"
+
+-- all counts of a page that tells of no answer whether it is other than was asked
 abbrev pub counts_text : SortCounts → Summary → List ℕ
-counts_text counts summary =
-    codes "<dl class=\"counts\">\n" ++ log_counts summary ++ answer_counts counts ++ other_counts counts ++ lost_counts counts ++ codes "</dl>\n"
+counts_text counts summary = counts_with 0 counts summary

@@ -1,21 +1,32 @@
--- The end of a report: how to read it, and the sign that it is whole. All of it is fixed.
-use Rattle.std.specs.Prelude.{ℕ, List, ◌++◌, codes}
+-- The end of a report: how to read it, and the sign that it is whole. All of it is fixed, but that words on answers stand on
+-- pages alone that have some.
+use Rattle.std.specs.Prelude.{ℕ, Bool, List, [], ◌++◌, codes, if◌then◌else◌}
 
 -- the heading of the help
 abbrev pub help_heading : List ℕ
 help_heading = codes "<footer id=\"help\">\n<h2>How to read this page</h2>\n"
 
--- the words of the help on times
-abbrev pub times_words : List ℕ
-times_words =
-    codes "Times are in seconds from the first frame of the two identifiers, and those of a message are of its last frame; <i>after</i> is the time from the last frame of the request to the first frame of the reply, with a minus where the clock of the log went back. The slowest answers of the verdict go by that time, but for any with a minus, and say how many replies before them were pending.</p>\n"
+-- the words of the help on the slowest answers, where there are answers
+abbrev pub slow_words : Bool → List ℕ
+slow_words answers = if answers then codes " The slowest answers of the verdict go by that time, but for any with a minus, and say how many replies before them were pending." else []
+
+-- the words of the help on times, where there are answers or are none
+abbrev pub times_words : Bool → List ℕ
+times_words answers =
+    codes "Times are in seconds from the first frame of the two identifiers, and those of a message are of its last frame; <i>after</i> is the time from the last frame of the request to the first frame of the reply, with a minus where the clock of the log went back."
+    ++ slow_words answers ++ codes "</p>\n"
+
+-- the words of the help on answers that are other than was asked, where there are answers
+abbrev pub echo_words : Bool → List ℕ
+echo_words answers =
+    if answers then codes "A positive answer that has other bytes than its request where it should repeat them (ISO 14229-1) says what it answers and what was asked; a masked byte is not compared. " else []
 
 -- the words of the help on what the page of one log shows
-abbrev pub help_front : List ℕ
-help_front =
+abbrev pub help_front : Bool → List ℕ
+help_front answers =
     help_heading
     ++ codes "<p>The left line is the tester, the right line the unit. Each arrow is a message, however many frames carried it, in the order in which the messages were complete. "
-    ++ times_words
+    ++ echo_words answers ++ times_words answers
 
 -- the legend of the rows of an exchange
 abbrev pub exchange_legend : List ℕ
@@ -62,6 +73,6 @@ blocks_words = codes " In a long session the first ten blocks are open, and the 
 abbrev pub tail_text : List ℕ
 tail_text = codes "</p>\n</footer>\n</div>\n<p id=\"end\">End of the report.</p>\n</body>\n</html>\n"
 
--- the end of the page of one log
-abbrev pub help_text : List ℕ
-help_text = help_front ++ legend_text ++ limits_text ++ blocks_words ++ tail_text
+-- the end of the page of one log, which has answers or has none
+abbrev pub help_text : Bool → List ℕ
+help_text answers = help_front answers ++ legend_text ++ limits_text ++ blocks_words ++ tail_text

@@ -51,8 +51,8 @@ IdentifiersStandOnce = (settings : Settings) (meanings : List (Option Stamped)) 
 -- the log is refused
 abbrev pub LinksHaveTargets : Type 0
 LinksHaveTargets = (settings : Settings) (meanings : List (Option Stamped))
-    → HasEachTarget (all_rows MESSAGE_LIMIT settings.rules (trace settings meanings))
-    × HasEachTarget (rows_of MESSAGE_LIMIT settings.rules (trace settings meanings))
+    → HasEachTarget settings.rules (all_rows MESSAGE_LIMIT settings.rules (trace settings meanings))
+    × HasEachTarget settings.rules (rows_of MESSAGE_LIMIT settings.rules (trace settings meanings))
 
 -- the items that the rows of a session tell are what its messages mean, and so those that `list` and `compare` have
 abbrev pub ItemsAreTheMeaning : Type 0

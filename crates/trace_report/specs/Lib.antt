@@ -11,6 +11,8 @@ pub mod Blocks
 pub mod Chart
 pub mod Events
 pub mod Links
+pub mod OtherAnswers
+pub mod OtherRows
 pub mod AnswerTimes
 pub mod SlowestLines
 pub mod Counts

@@ -3,10 +3,12 @@
 use Rattle.std.specs.Prelude.{◌≡◌, ℕ, List, ◌∷◌, [], ◌++◌, codes, map, slice_get, Option, Some, None, if◌then◌else◌}
 use Rattle.std.specs.List.{AllByRecursion, filter_map}
 use Rattle.arrayvec.specs.ArrayVec.{ArrayVec}
+use Rattle.uds_rules.specs.Rule.{RuleValue}
 use Rattle.slow_answers.specs.declared.answer.SlowAnswer.{SlowAnswer}
 use Rattle.trace_report.specs.AnswerTimes.{slowest_in}
 use Rattle.trace_report.specs.Rows.{RowValue, message, no_answer, dropped, ended, unfinished}
 use Rattle.trace_report.specs.Roles.{begins_item}
+use Rattle.trace_report.specs.OtherAnswers.{others_of}
 use Rattle.trace_report.specs.Sorts.{first_targets}
 use Rattle.trace_report.specs.Targets.{identifier}
 use Rattle.trace_report.specs.declared.targets.LinkTarget.{LinkTarget}
@@ -46,8 +48,8 @@ LeadTo rows targets = AllByRecursion (λ (place : LinkTarget). IsAmong place (ta
 abbrev pub LeadToItems : List RowValue → List SlowAnswer → Type 0
 LeadToItems rows answers = AllByRecursion (λ (answer : SlowAnswer). IsAmong (target.Item answer.item) (targets_in rows)) answers
 
--- each link of a verdict on these rows leads to one of them
-pub record HasEachTarget (rows : List RowValue) : Type 0 where
+-- each link of a verdict on these rows, which are under rules, leads to one of them
+pub record HasEachTarget (rules : List RuleValue) (rows : List RowValue) : Type 0 where
   pub dropped : LeadTo rows (first_targets rows).dropped
   pub ended : LeadTo rows (first_targets rows).ended
   pub unfinished : LeadTo rows (first_targets rows).unfinished
@@ -55,3 +57,4 @@ pub record HasEachTarget (rows : List RowValue) : Type 0 where
   pub unanswered : LeadTo rows (first_targets rows).unanswered
   pub strays : LeadTo rows (first_targets rows).strays
   pub slowest : LeadToItems rows (slowest_in rows)
+  pub others : LeadTo rows (others_of rules rows).first

@@ -5,6 +5,7 @@ use Rattle.std.specs.List.{flat_map}
 use Rattle.trace_text.specs.Words.{direction_text}
 use Rattle.trace_report.specs.Sorts.{most_links}
 use Rattle.trace_report.specs.Targets.{identifier}
+use Rattle.trace_report.specs.declared.other_answers.OtherAnswers.{OtherAnswers}
 use Rattle.trace_report.specs.declared.tally.SortCounts.{SortCounts}
 use Rattle.trace_report.specs.declared.tally.Tally.{Tally}
 use Rattle.trace_report.specs.declared.targets.LinkTarget.{LinkTarget}
@@ -51,12 +52,13 @@ abbrev pub attention_line : List ℕ → ℕ → List LinkTarget → List ℕ
 attention_line words count first = if count == 0 then [] else attention_entry words count first
 
 -- what needs attention, a line for each reason
-abbrev pub attention_lines : Tally → List ℕ
-attention_lines tally =
+abbrev pub attention_lines : Tally → OtherAnswers → List ℕ
+attention_lines tally others =
     attention_line (codes "dropped frames") tally.counts.dropped tally.first.dropped.items
     ++ attention_line (codes "ended early") tally.counts.ended tally.first.ended.items
     ++ attention_line (codes "unfinished") tally.counts.unfinished tally.first.unfinished.items
     ++ attention_line (codes "negative answers") tally.counts.negatives tally.first.negatives.items
+    ++ attention_line (codes "other than asked") others.count others.first.items
     ++ attention_line (codes "without an answer") tally.counts.unanswered tally.first.unanswered.items
     ++ attention_line (codes "strays") tally.counts.strays tally.first.strays.items
 
@@ -66,9 +68,9 @@ needs_no_attention counts =
     counts.dropped == 0 && (counts.ended == 0 && (counts.unfinished == 0 && (counts.negatives == 0 && (counts.unanswered == 0 && counts.strays == 0))))
 
 -- the list of what needs attention
-abbrev pub attention_list : Tally → List ℕ
-attention_list tally = codes "<ul class=\"look\">\n" ++ attention_lines tally ++ codes "</ul>\n"
+abbrev pub attention_list : Tally → OtherAnswers → List ℕ
+attention_list tally others = codes "<ul class=\"look\">\n" ++ attention_lines tally others ++ codes "</ul>\n"
 
 -- the list of what needs attention, where a row does
-abbrev pub attention_text : Tally → List ℕ
-attention_text tally = if needs_no_attention tally.counts then [] else attention_list tally
+abbrev pub attention_text : Tally → OtherAnswers → List ℕ
+attention_text tally others = if needs_no_attention tally.counts && others.count == 0 then [] else attention_list tally others

@@ -13,10 +13,11 @@ use Rattle.trace_report.specs.Chart.{rows_text}
 use Rattle.trace_report.specs.Causes.{cause_of}
 use Rattle.trace_report.specs.Events.{frame_rows, end_rows, rows_of}
 use Rattle.trace_report.specs.Front.{PageTitleValue, front_text}
+use Rattle.trace_report.specs.OtherAnswers.{last_asked, others_of}
 use Rattle.trace_report.specs.Help.{help_text}
 use Rattle.trace_report.specs.Rows.{RowValue}
 use Rattle.trace_report.specs.RuleWords.{rules_text}
-use Rattle.trace_report.specs.Sorts.{tally_of}
+use Rattle.trace_report.specs.Sorts.{has_answers, tally_of}
 use Rattle.trace_report.specs.Verdict.{FindingsValue, refused_verdict, stop_line, verdict_text}
 use Rattle.trace_log.specs.declared.fault.Fault.{Fault}
 use Rattle.trace_run.specs.Script.{GlimpseValue, RefusalText, Script}
@@ -39,7 +40,7 @@ front_before title (e ∷ rest) = []
 
 -- the text of rows behind those of the frames T, where `origin` is the time of the first frame
 abbrev pub rows_after : PageTitleValue → ℕ → List RuleValue → ℕ → List Entry → List RowValue → List ℕ
-rows_after title limit rules origin T rows = rows_text title.rules origin (blocks_of (rows_of limit rules T)) rows
+rows_after title limit rules origin T rows = rows_text title.rules origin (blocks_of (rows_of limit rules T)) (last_asked (rows_of limit rules T)) rows
 
 -- what is told of the frame e after the frames T: its rows, and before the first frame the front of the page
 abbrev pub frame_text : PageTitleValue → ℕ → List RuleValue → List Entry → Entry → List ℕ
@@ -52,7 +53,7 @@ all_rows limit rules T = rows_of limit rules T ++ end_rows limit rules T
 
 -- what stands behind the blocks of rows, with this verdict, of a log of which this was found
 abbrev pub behind_blocks : FindingsValue → List ℕ → List ℕ
-behind_blocks found verdict = codes "</main>\n" ++ rules_text found.rules found.spoken ++ verdict ++ help_text
+behind_blocks found verdict = codes "</main>\n" ++ rules_text found.rules found.spoken ++ verdict ++ help_text (has_answers found.tally.counts)
 
 -- the end of a page, behind rows that left these blocks, of a log of which this was found
 abbrev pub page_end : Blocks → FindingsValue → List ℕ
@@ -74,6 +75,7 @@ findings_of limit rules rows T summary = record {
   first = first_time T;
   last = last_time 0 T;
   slowest = slowest_in rows;
+  others = others_of rules rows;
 }
 
 -- the end of a page with this title, behind these rows

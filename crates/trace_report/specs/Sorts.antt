@@ -1,5 +1,5 @@
 -- The sorts of rows: what the verdict of a report counts, and where its links lead.
-use Rattle.std.specs.Prelude.{ℕ, ◌==◌, Bool, true, false, List, [], ◌∷◌, length, take, if◌then◌else◌}
+use Rattle.std.specs.Prelude.{ℕ, ◌==◌, ◌&&◌, not, Bool, true, false, List, [], ◌∷◌, length, take, if◌then◌else◌}
 use Rattle.std.specs.List.{flat_map}
 use Rattle.arrayvec.specs.ArrayVec.{ArrayVec}
 use Rattle.trace_report.specs.Rows.{RowValue, message, no_answer, dropped, ended, unfinished}
@@ -120,6 +120,10 @@ counts_in rows = record {
   ended = count_of sort.Ended rows;
   unfinished = count_of sort.Unfinished rows;
 }
+
+-- the rows tell an answer, by how many there are of each sort
+abbrev pub has_answers : SortCounts → Bool
+has_answers counts = not (counts.positives == 0 && counts.negatives == 0)
 
 -- of each sort that needs attention the places to which links to its first rows lead
 abbrev pub first_targets : List RowValue → FirstTargets

@@ -4,13 +4,14 @@ use Rattle.std.specs.Fmt.{decimal}
 use Rattle.std.specs.Prelude.{ℕ, ◌==◌, ◌&&◌, ◌||◌, not, Bool, List, [], ◌∷◌, ◌++◌, codes, Option, if◌then◌else◌}
 use Rattle.trace_text.specs.Words.{stamp_text}
 use Rattle.trace_report.specs.Causes.{cause_line}
-use Rattle.trace_report.specs.Counts.{counts_text}
+use Rattle.trace_report.specs.Counts.{counts_with}
 use Rattle.trace_report.specs.Links.{attention_text}
 use Rattle.trace_report.specs.Durations.{seconds_between}
 use Rattle.trace_report.specs.SlowestLines.{slowest_text}
 use Rattle.slow_answers.specs.declared.answer.SlowAnswer.{SlowAnswer}
 use Rattle.trace_log.specs.Summing.{is_clean, lacks_line_feed}
 use Rattle.trace_report.specs.declared.cause.RefusalCause.{RefusalCause}
+use Rattle.trace_report.specs.declared.other_answers.OtherAnswers.{OtherAnswers}
 use Rattle.trace_report.specs.declared.tally.SortCounts.{SortCounts}
 use Rattle.trace_report.specs.declared.tally.Tally.{Tally}
 use Rattle.trace_log.specs.declared.fault.Fault.{Fault}
@@ -132,8 +133,14 @@ answers_text rules asked refused missing =
 abbrev pub answers_of : List RuleValue → SortCounts → List ℕ
 answers_of rules counts = answers_text rules counts.requests counts.negatives counts.unanswered
 
+-- that not every answer is to what was asked, where so many are not
+abbrev pub other_sentence : List RuleValue → ℕ → List ℕ
+other_sentence rules count =
+    if count == 0 then []
+    else words_under rules (codes " Not every answer is to what was asked.") (codes " Of what the rules leave, not every answer is to what was asked.")
+
 -- What was found of a log: the rules that it is under, of how many messages each spoke, the tally of its rows, its
--- counts, the times of its first frame and of its last one, and its slowest answers.
+-- counts, the times of its first frame and of its last one, its slowest answers, and those that are other than was asked.
 pub record FindingsValue : Type 0 where
   pub rules : List RuleValue
   pub spoken : List ℕ
@@ -142,16 +149,19 @@ pub record FindingsValue : Type 0 where
   pub first : ℕ
   pub last : ℕ
   pub slowest : List SlowAnswer
+  pub others : OtherAnswers
 
 -- what was found of a log, behind the heading of its verdict
 abbrev pub findings_text : FindingsValue → List ℕ
 findings_text found =
-    attention_text found.tally ++ counts_text found.tally.counts found.summary ++ span_of found.summary.frames found.first found.last
+    attention_text found.tally found.others ++ counts_with found.others.count found.tally.counts found.summary ++ span_of found.summary.frames found.first found.last
     ++ slowest_text found.slowest ++ codes "</section>\n"
 
 -- the verdict of a log of which this was found
 abbrev pub verdict_text : FindingsValue → List ℕ
-verdict_text found = heading_text found.rules found.summary ++ answers_of found.rules found.tally.counts ++ codes "</p>\n" ++ findings_text found
+verdict_text found =
+    heading_text found.rules found.summary ++ answers_of found.rules found.tally.counts ++ other_sentence found.rules found.others.count ++ codes "</p>\n"
+    ++ findings_text found
 
 -- A log that is refused.
 

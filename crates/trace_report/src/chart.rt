@@ -2,9 +2,11 @@
 
 ghost use Rattle.std.specs.Prelude.{◌≡◌, ◌^◌, ◌<◌, ◌-◌, List, [], ◌∷◌, ◌++◌, length};
 ghost use Rattle.trace_report.specs.Blocks.{blocks_behind, blocks_of};
-ghost use Rattle.trace_report.specs.Chart.{row_text, rows_text};
+ghost use Rattle.trace_report.specs.Chart.{plain_text, row_text, rows_text};
+ghost use Rattle.trace_report.specs.OtherAnswers.{is_other, last_asked};
 ghost use Rattle.trace_report.specs.Rows.{RowValue, row_of};
 ghost use Rattle.trace_report.specs.proving.Following.{IsChartOf, row_if, rows_in};
+ghost use Rattle.uds_rules.specs.Rule.{RuleValue};
 
 use crate::answer_times::AnswerTimes;
 use crate::block_fronts::Opening;
@@ -13,7 +15,9 @@ use crate::brief_rows::{say_brief_message, say_brief_missing};
 use crate::follower::NewRows;
 use crate::message_rows::say_message_row;
 use crate::missing_rows::say_missing_row;
-use crate::row::SessionRow;
+use crate::other_answers::Echoes;
+use crate::other_rows::say_other_row;
+use crate::row::{RowContext, SentMessage, SessionRow};
 use crate::tally::Tally;
 use text_parts::say;
 use trace_io::TextSink;
@@ -25,17 +29,19 @@ pub(crate) struct Chart {
     pub blocks: Blocks,
     pub tally: Tally,
     pub times: AnswerTimes,
+    pub echoes: Echoes,
 }
 
 impl Chart {
     /// Before the first row.
     pub(crate) fn start() -> Chart
-        ensures { IsChartOf [] result }
+        ensures { (rules : List RuleValue) → IsChartOf rules [] result }
     {
         Chart {
             blocks: no_blocks(),
             tally: Tally::start(),
             times: AnswerTimes::start(),
+            echoes: Echoes::start(),
         }
     }
 
@@ -48,9 +54,9 @@ impl Chart {
         rows: NewRows<'_>,
         out: &mut S,
     )
-        ensures stands { (before : List RowValue) → length before < 2 ^ 64 - 3 → IsChartOf before self.old → IsChartOf (before ++ rows_in rows.entry) self.new }
-        ensures says { (before : List RowValue) → length before < 2 ^ 64 - 3 → IsChartOf before self.old
-            → S.says out.old (rows_text rules.now origin (blocks_of before) (rows_in rows.entry)) out.new }
+        ensures stands { (before : List RowValue) → length before < 2 ^ 64 - 3 → IsChartOf rules.now before self.old → IsChartOf rules.now (before ++ rows_in rows.entry) self.new }
+        ensures says { (before : List RowValue) → length before < 2 ^ 64 - 3 → IsChartOf rules.now before self.old
+            → S.says out.old (rows_text rules.now origin (blocks_of before) (last_asked before) (rows_in rows.entry)) out.new }
     {
         self.say_row_if(rules, origin, rows.first, out);
         self.say_row_if(rules, origin, rows.second, out);
@@ -66,57 +72,93 @@ impl Chart {
         row: Option<SessionRow<'_>>,
         out: &mut S,
     )
-        ensures stands { (before : List RowValue) → length before < 2 ^ 64 - 1 → IsChartOf before self.old → IsChartOf (before ++ row_if row.entry) self.new }
-        ensures says { (before : List RowValue) → length before < 2 ^ 64 - 1 → IsChartOf before self.old
-            → S.says out.old (rows_text rules.now origin (blocks_of before) (row_if row.entry)) out.new }
+        ensures stands { (before : List RowValue) → length before < 2 ^ 64 - 1 → IsChartOf rules.now before self.old → IsChartOf rules.now (before ++ row_if row.entry) self.new }
+        ensures says { (before : List RowValue) → length before < 2 ^ 64 - 1 → IsChartOf rules.now before self.old
+            → S.says out.old (rows_text rules.now origin (blocks_of before) (last_asked before) (row_if row.entry)) out.new }
     {
         if let Some(row) = row {
-            say_next_row(rules, origin, &mut self.blocks, row, out);
+            let other = self.echoes.is_other(rules, row);
+            let asked = self.echoes.asked();
+            let context = RowContext {
+                rules,
+                origin,
+                asked,
+            };
+            say_next_row(context, &mut self.blocks, other, row, out);
             self.tally.take(row);
             self.times.note(row);
+            self.echoes.follow(other, row);
         }
     }
 }
 
-/// Says a row behind those before, and what begins before it.
-pub(crate) fn say_next_row<S: TextSink>(
-    rules: &Rules,
-    origin: u64,
+/// Says a row behind those before, and what begins before it. Whether it tells an answer that is other than was asked is
+/// known.
+fn say_next_row<S: TextSink>(
+    context: RowContext<'_>,
     blocks: &mut Blocks,
+    other: bool,
     row: SessionRow<'_>,
     out: &mut S,
 )
-    ensures says { blocks.old.count < 2 ^ 64 - 1 → blocks.old.rows < 2 ^ 64 - 1 → S.says out.old (rows_text rules.now origin blocks.old (row_of row.entry ∷ [])) out.new }
+    requires { other ≡ is_other context.rules.now context.asked.now (row_of row) }
+    ensures says { blocks.old.count < 2 ^ 64 - 1 → blocks.old.rows < 2 ^ 64 - 1
+        → S.says out.old (rows_text context.entry.rules.now context.entry.origin blocks.old context.entry.asked.now (row_of row.entry ∷ [])) out.new }
     ensures stands { blocks.old.count < 2 ^ 64 - 1 → blocks.old.rows < 2 ^ 64 - 1 → blocks.new ≡ blocks_behind blocks.old (row_of row.entry ∷ []) }
 {
     let opening = Opening {
-        origin,
+        origin: context.origin,
         blocks: *blocks,
         row,
     };
     say(out, opening);
     *blocks = one_more_row(begins_exchange(row), *blocks);
-    say_row(rules, is_brief(*blocks), origin, row, out);
+    say_row(context, is_brief(*blocks), other, row, out);
 }
 
-/// Says a row, in a page whose first frame has the time `origin`, in a block of brief rows or in another.
-fn say_row<S: TextSink>(rules: &Rules, brief: bool, origin: u64, row: SessionRow<'_>, out: &mut S)
-    ensures { S.says out.old (row_text rules.now brief origin (row_of row.entry)) out.new }
+/// Says a row, in a block of brief rows or in another.
+fn say_row<S: TextSink>(
+    context: RowContext<'_>,
+    brief: bool,
+    other: bool,
+    row: SessionRow<'_>,
+    out: &mut S,
+)
+    requires { other ≡ is_other context.rules.now context.asked.now (row_of row) }
+    ensures { S.says out.old (row_text context.entry.rules.now brief context.entry.origin context.entry.asked.now (row_of row.entry)) out.new }
 {
     match row {
         SessionRow::Message { sent, message } => {
-            if brief {
-                say_brief_message(rules, origin, sent, message, out);
+            if other {
+                say_other_row(context, sent, message, out);
             } else {
-                say_message_row(rules, origin, sent, message, out);
+                say_plain_row(context, brief, sent, message, out);
             }
         }
         SessionRow::Missing(missing) => {
             if brief {
-                say_brief_missing(origin, missing, out);
+                say_brief_missing(context.origin, missing, out);
             } else {
-                say_missing_row(true, origin, missing, out);
+                say_missing_row(true, context.origin, missing, out);
             }
         }
+    }
+}
+
+/// Says the row of a message, but for an answer that is other than was asked.
+#[inline(always)]
+fn say_plain_row<S: TextSink>(
+    context: RowContext<'_>,
+    brief: bool,
+    sent: SentMessage,
+    message: &[u8],
+    out: &mut S,
+)
+    ensures { S.says out.old (plain_text context.entry.rules.now brief context.entry.origin sent.role sent.dir sent.place message.now) out.new }
+{
+    if brief {
+        say_brief_message(context.rules, context.origin, sent, message, out);
+    } else {
+        say_message_row(context.rules, context.origin, sent, message, out);
     }
 }

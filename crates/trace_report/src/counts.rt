@@ -18,6 +18,21 @@ impl<'a> Part for Counts<'a> {
 
     fn say<S: TextSink>(self, out: &mut S) {
         let Counts(counts, summary) = self;
+        say(out, CountsWith(0, counts, summary));
+    }
+}
+
+/// The same, with how many answers are other than was asked.
+#[derive(Clone, Copy)]
+pub(crate) struct CountsWith<'a>(pub u64, pub &'a SortCounts, pub &'a Summary);
+
+impl<'a> Part for CountsWith<'a> {
+    ghost use Rattle.trace_report.specs.Counts.{counts_with};
+
+    ghost text = { λ all. counts_with all.0 all.1.now all.2.now };
+
+    fn say<S: TextSink>(self, out: &mut S) {
+        let CountsWith(others, counts, summary) = self;
         say(
             out,
             (
@@ -45,6 +60,14 @@ impl<'a> Part for Counts<'a> {
                         ),
                     ),
                     SortCount(Sort::Silent, "silent", counts.silent),
+                ),
+                When(
+                    others != 0,
+                    CountLine {
+                        needs_attention: true,
+                        words: "other than asked",
+                        count: others,
+                    },
                 ),
                 (
                     SortCount(Sort::Pendings, "pending", counts.pendings),

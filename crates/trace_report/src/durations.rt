@@ -21,7 +21,7 @@ impl Part for Seconds {
 
 /// So many microseconds, in milliseconds.
 #[derive(Clone, Copy)]
-pub(crate) struct Duration(pub u64);
+pub struct Duration(pub u64);
 
 impl Part for Duration {
     ghost use Rattle.trace_report.specs.Durations.{milliseconds_text};

@@ -1,22 +1,22 @@
 //! The end of a report: how to read it, and the sign that it is whole.
 
-use text_parts::{Part, say};
+use text_parts::{Part, When, say};
 use trace_io::TextSink;
 
-/// The end of a page.
+/// The end of a page, which has answers or has none.
 #[derive(Clone, Copy)]
-pub(crate) struct Help;
+pub(crate) struct Help(pub bool);
 
 impl Part for Help {
     ghost use Rattle.trace_report.specs.Help.{help_text};
 
-    ghost text = { λ help. help_text };
+    ghost text = { λ help. help_text help.0 };
 
     fn say<S: TextSink>(self, out: &mut S) {
         say(
             out,
             (
-                HelpFront,
+                HelpFront(self.0),
                 Legend,
                 Limits,
                 " In a long session the first ten blocks are open, and the others folded and brief.",
@@ -26,14 +26,14 @@ impl Part for Help {
     }
 }
 
-/// What a page shows.
+/// What a page shows, which has answers or has none.
 #[derive(Clone, Copy)]
-struct HelpFront;
+struct HelpFront(bool);
 
 impl Part for HelpFront {
     ghost use Rattle.trace_report.specs.Help.{help_front};
 
-    ghost text = { λ start. help_front };
+    ghost text = { λ start. help_front start.0 };
 
     fn say<S: TextSink>(self, out: &mut S) {
         say(
@@ -41,7 +41,11 @@ impl Part for HelpFront {
             (
                 HelpHeading,
                 "<p>The left line is the tester, the right line the unit. Each arrow is a message, however many frames carried it, in the order in which the messages were complete. ",
-                TimesWords,
+                When(
+                    self.0,
+                    "A positive answer that has other bytes than its request where it should repeat them (ISO 14229-1) says what it answers and what was asked; a masked byte is not compared. ",
+                ),
+                TimesWords(self.0),
             ),
         );
     }
@@ -64,19 +68,26 @@ impl Part for HelpHeading {
     }
 }
 
-/// Which times are told.
+/// Which times are told, where there are answers or are none.
 #[derive(Clone, Copy)]
-struct TimesWords;
+struct TimesWords(bool);
 
 impl Part for TimesWords {
     ghost use Rattle.trace_report.specs.Help.{times_words};
 
-    ghost text = { λ words. times_words };
+    ghost text = { λ words. times_words words.0 };
 
     fn say<S: TextSink>(self, out: &mut S) {
         say(
             out,
-            "Times are in seconds from the first frame of the two identifiers, and those of a message are of its last frame; <i>after</i> is the time from the last frame of the request to the first frame of the reply, with a minus where the clock of the log went back. The slowest answers of the verdict go by that time, but for any with a minus, and say how many replies before them were pending.</p>\n",
+            (
+                "Times are in seconds from the first frame of the two identifiers, and those of a message are of its last frame; <i>after</i> is the time from the last frame of the request to the first frame of the reply, with a minus where the clock of the log went back.",
+                When(
+                    self.0,
+                    " The slowest answers of the verdict go by that time, but for any with a minus, and say how many replies before them were pending.",
+                ),
+                "</p>\n",
+            ),
         );
     }
 }

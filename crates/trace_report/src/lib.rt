@@ -23,6 +23,7 @@
 //! | the chart: rows one after another, in blocks that fold | `blocks`, `block_fronts`, `chart` | `Blocks`, `Chart` |
 //! | the rows of a frame, by what the frames before it were | `follower`, `extents`, `frames`, `times` | `Events` |
 //! | the rules that a page is under | `rule_words`, `rules_style` | `RuleWords`, `RulesStyle` |
+//! | answers that are other than was asked | `other_answers`, `other_rows` | `OtherAnswers`, `OtherRows` |
 //! | the slowest answers | `answer_times`, `slowest_lines` | `AnswerTimes`, `SlowestLines` |
 //! | the verdict of a log | `verdict_front`, `verdict`, `spans`, `links`, `counts`, `reasons` | `Links`, `Counts`, `Verdict` |
 //! | why a log is refused | `looks`, `first_bytes`, `cause`, `refusal` | `Looks`, `Causes`, `Verdict` |
@@ -62,6 +63,8 @@ mod message_rows;
 mod message_words;
 mod missing_rows;
 mod missing_words;
+mod other_answers;
+mod other_rows;
 mod page_end;
 mod plain_reasons;
 mod reasons;
@@ -87,7 +90,7 @@ mod verdict_front;
 pub use blocks::begins_exchange;
 pub use cause::{CauseLine, RefusalCause, RefusalCauseText, cause_of};
 pub use counts::Counts;
-pub use durations::Seconds;
+pub use durations::{Duration, Seconds};
 pub use front::{DocumentFront, Identifiers, Shapes};
 pub use help::{HelpHeading, Legend, Limits, Tail};
 pub use items::{PlacedItem, RowMessage};

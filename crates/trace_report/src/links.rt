@@ -3,6 +3,7 @@
 ghost use Rattle.std.specs.Prelude.{◌≡◌};
 ghost use Rattle.trace_report.specs.Links as Spec;
 
+use crate::other_answers::OtherAnswers;
 use crate::tally::{MOST_LINKS, SortCounts, Tally, Targets};
 use crate::targets::LinkTarget;
 use text_parts::{Part, say};
@@ -11,17 +12,18 @@ use trace_text::{Number, Sender};
 
 /// What needs attention, where something does, by its sort.
 #[derive(Clone, Copy)]
-pub(crate) struct Attention<'a>(pub &'a Tally);
+pub(crate) struct Attention<'a>(pub &'a Tally, pub &'a OtherAnswers);
 
 impl<'a> Part for Attention<'a> {
     ghost use Rattle.trace_report.specs.Links.{attention_text};
 
-    ghost text = { λ attention. attention_text attention.0.now };
+    ghost text = { λ attention. attention_text attention.0.now attention.1.now };
 
     fn say<S: TextSink>(self, out: &mut S) {
-        let counts = &self.0.counts;
-        let first = &self.0.first;
-        if needs_no_attention(counts) {
+        let Attention(tally, others) = self;
+        let counts = &tally.counts;
+        let first = &tally.first;
+        if needs_no_attention(counts) && others.count == 0 {
             return;
         }
         say(
@@ -33,6 +35,7 @@ impl<'a> Part for Attention<'a> {
                     AttentionLine("ended early", counts.ended, &first.ended),
                     AttentionLine("unfinished", counts.unfinished, &first.unfinished),
                     AttentionLine("negative answers", counts.negatives, &first.negatives),
+                    AttentionLine("other than asked", others.count, &others.first),
                     AttentionLine("without an answer", counts.unanswered, &first.unanswered),
                     AttentionLine("strays", counts.strays, &first.strays),
                 ),

@@ -6,6 +6,7 @@ use crate::cause::RefusalCause;
 use crate::help::Help;
 use crate::refusal::StopLine;
 use crate::rule_words::RulesSection;
+use crate::sorts::has_answers;
 use crate::verdict::{Findings, RefusedVerdict, VerdictSection};
 use text_parts::{Part, say};
 use trace_io::TextSink;
@@ -88,13 +89,14 @@ impl<'a, V: Part> Part for BehindBlocks<'a, V> {
 
     fn say<S: TextSink>(self, out: &mut S) {
         let BehindBlocks { found, verdict } = self;
+        let answers = has_answers(&found.tally.counts);
         say(
             out,
             (
                 "</main>\n",
                 RulesSection(found.rules, found.spoken),
                 verdict,
-                Help,
+                Help(answers),
             ),
         );
     }

@@ -142,6 +142,7 @@ impl<'a> Machine for Reporter<'a> {
                 summary,
                 times,
                 slowest: chart.times.slowest(),
+                others: &chart.echoes.others,
             },
         };
         say(out, closing);
@@ -174,6 +175,7 @@ impl<'a> Machine for Reporter<'a> {
                 summary,
                 times,
                 slowest: chart.times.slowest(),
+                others: &chart.echoes.others,
             },
         };
         say(out, closing);

@@ -4,6 +4,7 @@ use crate::roles::MessageRole;
 use direction::Dir;
 use isotp_receive::{Ended, Reason};
 use trace_canon::reception_starts::FramePlace;
+use uds_rules::Rules;
 
 /// Where a message stands: its item, its first frame and its last one, how many carry its bytes, and whether it was
 /// sent to all units.
@@ -22,6 +23,15 @@ pub struct SentMessage {
     pub role: MessageRole,
     pub dir: Dir,
     pub place: MessagePlace,
+}
+
+/// By what a row is said, beside what it tells: the rules that its page is under, the time of the first frame of the two
+/// sides, and what is kept of the request that was asked last.
+#[derive(Clone, Copy)]
+pub(crate) struct RowContext<'a> {
+    pub rules: &'a Rules,
+    pub origin: u64,
+    pub asked: &'a [u8],
 }
 
 /// What a row tells.

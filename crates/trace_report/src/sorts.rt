@@ -6,6 +6,7 @@ ghost use Rattle.trace_report.specs.Rows.{missing_of, row_of};
 
 use crate::roles::MessageRole;
 use crate::row::{Missing, SessionRow, Silence};
+use crate::tally::SortCounts;
 use crate::targets::LinkTarget;
 
 /// What needs attention, and what else is counted.
@@ -87,6 +88,13 @@ pub(crate) fn message_needs_attention(role: MessageRole) -> bool
     ensures { result ≡ Spec.message_needs_attention role }
 {
     needs_attention(sort_of_role(role))
+}
+
+/// Whether rows tell an answer, by how many there are of each sort.
+pub(crate) fn has_answers(counts: &SortCounts) -> bool
+    ensures { result ≡ Spec.has_answers counts.now }
+{
+    !(counts.positives == 0 && counts.negatives == 0)
 }
 
 /// The sort of the row of an item without an answer.

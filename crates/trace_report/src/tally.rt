@@ -124,7 +124,7 @@ impl FirstTargets {
 }
 
 /// Puts a target behind those before it, if there is room.
-fn push_if_room(first: &mut Targets, target: LinkTarget)
+pub(crate) fn push_if_room(first: &mut Targets, target: LinkTarget)
     ensures { first.new.items ≡ take most_links (first.old.items ++ target ∷ []) }
 {
     if !first.is_full() {

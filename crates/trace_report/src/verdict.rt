@@ -5,8 +5,9 @@ ghost use Rattle.std.specs.Prelude.{◌≡◌};
 ghost use Rattle.trace_report.specs.Verdict as Spec;
 
 use crate::cause::RefusalCause;
-use crate::counts::Counts;
+use crate::counts::CountsWith;
 use crate::links::Attention;
+use crate::other_answers::OtherAnswers;
 use crate::reasons::{UncleanReasons, WordsUnder};
 use crate::refusal::RefusedHeading;
 use crate::slowest_lines::SlowestText;
@@ -21,7 +22,7 @@ use trace_log::{Fault, Summary};
 use uds_rules::Rules;
 
 /// What was found of a log: the rules that it is under, of how many messages each spoke, the tally of its rows, its
-/// counts, the times of its first frame and its last one, and its slowest answers.
+/// counts, the times of its first frame and its last one, its slowest answers, and those that are other than was asked.
 #[derive(Clone, Copy)]
 pub(crate) struct Findings<'a> {
     pub rules: &'a Rules,
@@ -30,6 +31,7 @@ pub(crate) struct Findings<'a> {
     pub summary: &'a Summary,
     pub times: Option<Times>,
     pub slowest: &'a [SlowAnswer],
+    pub others: &'a OtherAnswers,
 }
 
 /// The verdict of a log of which this was found.
@@ -49,6 +51,7 @@ impl<'a> Part for VerdictSection<'a> {
             (
                 Heading(found.rules, found.summary),
                 AnswersOf(found.rules, &found.tally.counts),
+                OtherSentence(found.rules, found.others.count),
                 "</p>\n",
                 FindingsText(found),
             ),
@@ -97,13 +100,14 @@ impl<'a> Part for FindingsText<'a> {
             summary,
             times,
             slowest,
+            others,
             ..
         } = self.0;
         say(
             out,
             (
-                Attention(tally),
-                Counts(&tally.counts, summary),
+                Attention(tally, others),
+                CountsWith(others.count, &tally.counts, summary),
                 SpanOf {
                     frames: summary.frames,
                     first: first_of(times),
@@ -232,6 +236,30 @@ impl<'a> Part for AnswersOf<'a> {
                     rules,
                     whole: " Not every request has a positive answer.",
                     left: " Of what the rules leave, not every request has a positive answer.",
+                },
+            );
+        }
+    }
+}
+
+/// That not every answer is to what was asked, where so many are not.
+#[derive(Clone, Copy)]
+struct OtherSentence<'a>(&'a Rules, u64);
+
+impl<'a> Part for OtherSentence<'a> {
+    ghost use Rattle.trace_report.specs.Verdict.{other_sentence};
+
+    ghost text = { λ sentence. other_sentence sentence.0.now sentence.1 };
+
+    fn say<S: TextSink>(self, out: &mut S) {
+        let OtherSentence(rules, count) = self;
+        if count > 0 {
+            say(
+                out,
+                WordsUnder {
+                    rules,
+                    whole: " Not every answer is to what was asked.",
+                    left: " Of what the rules leave, not every answer is to what was asked.",
                 },
             );
         }

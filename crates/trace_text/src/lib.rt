@@ -14,6 +14,7 @@
 //! |---|---|---|
 //! | numbers and bytes | `numbers`, `digits`, `bytes`, `counts` | `Words`, `Counts` |
 //! | names: who sent a message, services, codes, causes | `names`, `name_parts` | `Words`, `RemarkLines` |
+//! | how commands write | `item_style`, `comparison_style`, `credit_style`, `notation` | |
 //! | items, in words and as JSON | `item_style`, `notation`, `item_lines`, `item_objects` | `ItemLines`, `Json` |
 //! | remarks: what a line that explains a log tells | `remark`, `remark_lines`, `remark_objects` | `RemarkLines` |
 //! | rules, and what they leave of messages | `rule_text`, `ruled_bytes` | `RuleText`, `RuledText` |
@@ -24,7 +25,9 @@
 #![tactic(auto)]
 
 mod bytes;
+mod comparison_style;
 mod counts;
+mod credit_style;
 mod digits;
 mod item_lines;
 mod item_objects;
@@ -41,7 +44,9 @@ mod rule_text;
 mod ruled_bytes;
 
 pub use bytes::{Byte, HexBytes, Verbatim};
+pub use comparison_style::ComparisonStyle;
 pub use counts::{MessagesWord, say_counts};
+pub use credit_style::CreditStyle;
 pub use item_lines::{say_item_line, say_items, say_worded_line};
 pub use item_objects::say_item_object;
 pub use item_style::{ItemStyle, Numbering};

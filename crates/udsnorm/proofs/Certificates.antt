@@ -20,12 +20,12 @@ use Rattle.trace_run.specs.Stopping.{IsReadToEnd}
 use Rattle.trace_run.specs.AnswersAndWrites.{AnswersAndWrites}
 use Rattle.trace_report.specs.Kept as Keeps
 use Rattle.trace_report.specs.Session.{SessionValue}
-use Rattle.udsnorm.specs.Commands.{Engine, normalises, writes, finds, explains, runs, runs_in_style, EngineAnswers, PairEngineAnswers, answers_of, engine_of}
+use Rattle.udsnorm.specs.Engines.{Engine, normalises, writes, finds, explains, runs, runs_in_style, EngineAnswers, PairEngineAnswers, answers_of, engine_of}
 use Rattle.udsnorm.specs.Ending.{status_of_run_of_two}
-use Rattle.udsnorm.specs.declared.commands.Job.{Job}
+use Rattle.command_line.specs.declared.commands.Job.{Job}
 use Rattle.udsnorm.specs.declared.pair_jobs.PairAnswer.{PairAnswer}
-use Rattle.udsnorm.specs.declared.pair_jobs.PairJob.{PairJob}
-use Rattle.udsnorm.specs.declared.pair_jobs.PairJob.TheVariants as pair_job
+use Rattle.command_line.specs.declared.commands.PairJob.{PairJob}
+use Rattle.command_line.specs.declared.commands.PairJob.TheVariants as pair_job
 use Rattle.udsnorm.proofs.Pairs.{accepted_pair}
 
 -- the counts of a log whose lines mean this

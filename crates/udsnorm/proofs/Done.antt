@@ -15,22 +15,22 @@ use Rattle.udsnorm.specs.Asked.{Did, DidAsked, DidWords, IsDone, IsDoneBy, ToldW
 use Rattle.udsnorm.specs.Opening.{Saying}
 use Rattle.udsnorm.specs.Ending.{flushes, has_unclean, is_unclean, status_of_run_of_two}
 use Rattle.trace_run.specs.Script.{GlimpseValue, glimpse_of}
-use Rattle.udsnorm.specs.Commands.{EngineAnswers, PairEngineAnswers}
-use Rattle.udsnorm.specs.declared.commands.Job.TheVariants as job
-use Rattle.udsnorm.specs.declared.pair_jobs.PairJob.TheVariants as pair_job
-use Rattle.udsnorm.specs.Values.{page_name, shown_name}
+use Rattle.udsnorm.specs.Engines.{EngineAnswers, PairEngineAnswers}
+use Rattle.command_line.specs.declared.commands.Job.TheVariants as job
+use Rattle.command_line.specs.declared.commands.PairJob.TheVariants as pair_job
+use Rattle.command_line.specs.Values.{page_name, shown_name}
 use Rattle.udsnorm.specs.Run.{RanOne, RanTwo}
 use Rattle.udsnorm.specs.Telling.{WroteText}
-use Rattle.udsnorm.specs.Words.{IsPlanned}
-use Rattle.udsnorm.specs.declared.commands.Job.{Job}
+use Rattle.command_line.specs.Words.{IsPlanned}
+use Rattle.command_line.specs.declared.commands.Job.{Job}
 use Rattle.udsnorm.specs.declared.pair_jobs.PairAnswer.{PairAnswer}
-use Rattle.udsnorm.specs.declared.pair_jobs.PairJob.{PairJob}
+use Rattle.command_line.specs.declared.commands.PairJob.{PairJob}
 use Rattle.udsnorm.specs.declared.ended.Known.{Known}
-use Rattle.udsnorm.specs.declared.job.Plan.{Plan}
-use Rattle.udsnorm.specs.declared.job.Plan.TheVariants.{One, Two}
-use Rattle.udsnorm.specs.declared.job.WordsFault.{WordsFault}
-use Rattle.udsnorm.specs.declared.job.WordsFault.TheVariants as words
-use Rattle.udsnorm.specs.declared.profiled.SeenProfile.{SeenProfile}
+use Rattle.command_line.specs.declared.job.Plan.{Plan}
+use Rattle.command_line.specs.declared.job.Plan.TheVariants.{One, Two}
+use Rattle.command_line.specs.declared.job.WordsFault.{WordsFault}
+use Rattle.command_line.specs.declared.job.WordsFault.TheVariants as words
+use Rattle.command_line.specs.declared.seen_profile.SeenProfile.{SeenProfile}
 use Rattle.udsnorm.proofs.Pairs.{accepted_pair, same_of_zero}
 use Rattle.udsnorm.proofs.Statuses.{agrees_from_start, answers_from_start, answers_on_more, summary_of_done}
 

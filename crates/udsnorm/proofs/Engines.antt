@@ -6,7 +6,7 @@ use Rattle.trace_io.specs.declared.device.Target.{Ghosts as TargetGhosts}
 use Rattle.trace_log.specs.Settings.{Settings}
 use Rattle.trace_log.specs.declared.fault.Fault.{Fault}
 use Rattle.trace_log.specs.declared.summary.Summary.{Summary}
-use Rattle.udsnorm.specs.Commands.{Engine, RanAny, RanBy, normalises, writes, finds, explains, runs, runs_in_style}
+use Rattle.udsnorm.specs.Engines.{Engine, RanAny, RanBy, normalises, writes, finds, explains, runs, runs_in_style}
 
 pub ran_any : {R W : Type 0} (source : SourceGhosts R) (target : TargetGhosts W) (engine : Engine) (settings : Settings) (before : R) (old : W) (result : Result Summary Fault) (after : R) (new : W)
     → RanBy source target engine settings before old result after new → RanAny source target engine MESSAGE_LIMIT settings before old result after new

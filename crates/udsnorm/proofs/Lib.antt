@@ -4,12 +4,8 @@ pub mod Certificates
 pub mod OpenedFiles
 pub mod Done
 pub mod Engines
-pub mod Configured
-pub mod Built
-pub mod Taken
 pub mod LineParts
 pub mod ToldTexts
 pub mod Fronts
 pub mod Serving
-pub mod AskedHints
 pub mod Awaited

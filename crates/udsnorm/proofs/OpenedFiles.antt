@@ -9,12 +9,12 @@ use Rattle.clap.specs.declared.parser.matches.ArgMatches.{ArgMatches}
 use Rattle.trace_io.specs.Counted.{CountedReader}
 use Rattle.trace_io.specs.Stream.{Gave}
 use Rattle.trace_io.specs.declared.device.Source.{Ghosts as SourceGhosts}
-use Rattle.udsnorm.specs.Commands.{command_in}
+use Rattle.command_line.specs.Commands.{command_in}
 use Rattle.udsnorm.specs.Opening.{Saying, opened, two_files}
 use Rattle.udsnorm.specs.Profiled.{IsApartFrom, IsSeenOf, IsSeenAt, IsSeenIn, IsUnread, WasRead, log_names}
-use Rattle.udsnorm.specs.Words.{AreParsedAs}
-use Rattle.udsnorm.specs.declared.profiled.SeenProfile.{SeenProfile}
-use Rattle.udsnorm.specs.declared.profiled.SeenProfile.TheVariants as seen
+use Rattle.command_line.specs.Words.{AreParsedAs}
+use Rattle.command_line.specs.declared.seen_profile.SeenProfile.{SeenProfile}
+use Rattle.command_line.specs.declared.seen_profile.SeenProfile.TheVariants as seen
 
 abbrev pub given_by : {F : Type 0} → CountedReader F → List ℕ
 given_by log = log.given

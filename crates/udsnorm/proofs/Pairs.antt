@@ -26,7 +26,7 @@ use Rattle.trace_io.specs.declared.device.Target.{Ghosts as TargetGhosts}
 use Rattle.trace_report.specs.Kept.{KeepsTwo, KeptSessionsValue}
 use Rattle.trace_pair.specs.Page.{pair_page}
 use Rattle.trace_pair.specs.Titles.{title_for}
-use Rattle.udsnorm.specs.Commands.{ComparesPair, NeedsMemoryForDifference, PagesPair, TextOfCompared, has_text, pair_of}
+use Rattle.udsnorm.specs.Engines.{ComparesPair, NeedsMemoryForDifference, PagesPair, TextOfCompared, has_text, pair_of}
 use Rattle.udsnorm.specs.Ending.{has_unclean, status_of_comparison, status_of_run_of_two}
 use Rattle.udsnorm.specs.Status.{status_of}
 use Rattle.udsnorm.specs.Telling.{WroteText}
@@ -34,8 +34,8 @@ use Rattle.udsnorm.specs.proving.Flushed.{FlushedIf}
 use Rattle.trace_run.specs.Script.{GlimpseValue}
 use Rattle.udsnorm.specs.proving.Pairs.{HasItems, answer_kept, answer_of, cause_in, text_of_answer}
 use Rattle.udsnorm.specs.declared.pair_jobs.PairAnswer.{PairAnswer}
-use Rattle.udsnorm.specs.declared.pair_jobs.PairJob.{PairJob}
-use Rattle.udsnorm.specs.declared.pair_jobs.PairJob.TheVariants as pair_job
+use Rattle.command_line.specs.declared.commands.PairJob.{PairJob}
+use Rattle.command_line.specs.declared.commands.PairJob.TheVariants as pair_job
 use Rattle.udsnorm.proofs.Statuses.{took_still}
 
 -- ---- the engine

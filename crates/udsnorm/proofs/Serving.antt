@@ -9,8 +9,8 @@ use Rattle.udsnorm.specs.Hints.{GaveHint}
 use Rattle.udsnorm.specs.Opening.{Saying}
 use Rattle.udsnorm.specs.Process.{Hinted, Served}
 use Rattle.udsnorm.specs.declared.ended.Known.{Known}
-use Rattle.udsnorm.specs.declared.job.Plan.{Plan}
-use Rattle.udsnorm.specs.declared.job.WordsFault.{WordsFault}
+use Rattle.command_line.specs.declared.job.Plan.{Plan}
+use Rattle.command_line.specs.declared.job.WordsFault.{WordsFault}
 use Rattle.udsnorm.specs.declared.Terminals.{Terminals}
 
 -- what is done of some words is done of the same

@@ -12,9 +12,9 @@ use Rattle.trace_log.specs.declared.summary.Summary.{Summary}
 use Rattle.trace_io.specs.Stream.{Agrees, Took}
 use Rattle.udsnorm.specs.Ending.{ComesTo, EndsAs, flushes, is_unclean, status_of_run}
 use Rattle.trace_run.specs.Script.{GlimpseValue}
-use Rattle.udsnorm.specs.Commands.{EngineAnswers}
+use Rattle.udsnorm.specs.Engines.{EngineAnswers}
 use Rattle.udsnorm.specs.Status.{status_of}
-use Rattle.udsnorm.specs.declared.commands.Job.{Job}
+use Rattle.command_line.specs.declared.commands.Job.{Job}
 
 -- ---- after the flush
 

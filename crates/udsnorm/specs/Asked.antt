@@ -14,28 +14,29 @@ use Rattle.trace_io.specs.Written.{HasFront}
 use Rattle.trace_io.specs.declared.device.Source.{Ghosts as SourceGhosts}
 use Rattle.trace_io.specs.declared.device.Target.{Ghosts as TargetGhosts}
 use Rattle.trace_run.specs.Script.{GlimpseValue}
-use Rattle.udsnorm.specs.Commands.{EngineAnswers, PairEngineAnswers}
-use Rattle.udsnorm.specs.FaultLines.{fault_line, one_stream_line, side_line, words_text}
+use Rattle.udsnorm.specs.Engines.{EngineAnswers, PairEngineAnswers}
+use Rattle.udsnorm.specs.FaultLines.{fault_line, one_stream_line, side_line}
+use Rattle.command_line.specs.WordsTexts.{words_text}
 use Rattle.udsnorm.specs.Ending.{has_unclean, is_unclean}
 use Rattle.udsnorm.specs.Known.{IsKnownBy, IsKnownByTwo, knows_unopened}
 use Rattle.udsnorm.specs.Opening.{Saying, one_stream, opened, refused, two_files}
 use Rattle.udsnorm.specs.Profiled.{IsUnread}
 use Rattle.udsnorm.specs.Run.{RanOne, RanTwo}
 use Rattle.udsnorm.specs.Telling.{TookText}
-use Rattle.udsnorm.specs.Values.{page_name, shown_name}
-use Rattle.udsnorm.specs.Words.{IsPlanned}
-use Rattle.udsnorm.specs.declared.commands.Job.{Job}
+use Rattle.command_line.specs.Values.{page_name, shown_name}
+use Rattle.command_line.specs.Words.{IsPlanned}
+use Rattle.command_line.specs.declared.commands.Job.{Job}
 use Rattle.udsnorm.specs.declared.pair_jobs.PairAnswer.{PairAnswer}
-use Rattle.udsnorm.specs.declared.pair_jobs.PairJob.{PairJob}
+use Rattle.command_line.specs.declared.commands.PairJob.{PairJob}
 use Rattle.udsnorm.specs.declared.ended.Known.{Known}
-use Rattle.udsnorm.specs.declared.opening.OpenFault.{OpenFault}
-use Rattle.udsnorm.specs.declared.profiled.SeenProfile.{SeenProfile}
+use Rattle.command_line.specs.declared.open_faults.OpenFault.{OpenFault}
+use Rattle.command_line.specs.declared.seen_profile.SeenProfile.{SeenProfile}
 use Rattle.udsnorm.specs.declared.ended.Which.{Which}
 use Rattle.udsnorm.specs.declared.ended.Which.TheVariants.{First, Second}
-use Rattle.udsnorm.specs.declared.job.Plan.{Plan}
-use Rattle.udsnorm.specs.declared.job.Plan.TheVariants.{One, Two}
-use Rattle.udsnorm.specs.declared.job.WordsFault.{WordsFault}
-use Rattle.udsnorm.specs.declared.job.WordsFault.TheVariants as words
+use Rattle.command_line.specs.declared.job.Plan.{Plan}
+use Rattle.command_line.specs.declared.job.Plan.TheVariants.{One, Two}
+use Rattle.command_line.specs.declared.job.WordsFault.{WordsFault}
+use Rattle.command_line.specs.declared.job.WordsFault.TheVariants as words
 
 -- what a target took of a text, by its history
 abbrev pub Took : {W : Type 0} → TargetGhosts W → List ℕ → W → W → Type 0

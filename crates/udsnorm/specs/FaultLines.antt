@@ -1,18 +1,14 @@
 -- What is told of each fault, as bytes.
-use Rattle.std.specs.Prelude.{ℕ, ◌==◌, not, Bool, List, [], ◌++◌, codes, Result, Ok, Err, string_bytes, if◌then◌else◌}
+use Rattle.std.specs.Prelude.{ℕ, ◌==◌, not, Bool, List, [], ◌++◌, codes, Result, Ok, Err, if◌then◌else◌}
 use Rattle.std.specs.Fmt.{decimal}
 use Rattle.trace_log.specs.declared.fault.CompareFault.{CompareFault}
 use Rattle.trace_log.specs.declared.fault.CompareFault.TheVariants.{Left, Right}
-use Rattle.trace_log.specs.declared.fault.ConfigFault.{ConfigFault}
-use Rattle.trace_log.specs.declared.fault.ConfigFault.TheVariants as config
 use Rattle.trace_log.specs.declared.fault.Fault.{Fault}
 use Rattle.trace_log.specs.declared.fault.Fault.TheVariants as fault
 use Rattle.trace_log.specs.declared.summary.Summary.{Summary}
 use Rattle.trace_log.specs.Summing.{is_clean, lacks_line_feed}
 use Rattle.udsnorm.specs.Ending.{has_unclean, is_unclean}
 use Rattle.udsnorm.specs.declared.pair_jobs.PairAnswer.{PairAnswer}
-use Rattle.udsnorm.specs.declared.job.WordsFault.{WordsFault}
-use Rattle.udsnorm.specs.declared.job.WordsFault.TheVariants as words
 
 -- the line of a fault
 abbrev pub fault_line : Fault → List ℕ
@@ -30,26 +26,9 @@ abbrev pub side_line : CompareFault → List ℕ
 side_line (Left fault) = codes "left: " ++ fault_line fault
 side_line (Right fault) = codes "right: " ++ fault_line fault
 
--- the line of a configuration that there is not
-abbrev pub config_line : ConfigFault → List ℕ
-config_line config.IdRange = codes "identifier out of range\n"
-config_line config.SameId = codes "tester and unit have the same identifier\n"
-config_line config.SameFunctional = codes "functional identifier is that of tester or unit\n"
-config_line config.LimitRange = codes "limit out of range\n"
-
 -- the line of two logs that are one stream
 abbrev pub one_stream_line : List ℕ
 one_stream_line = codes "both logs are the same stream\n"
-
--- the text of words that ask for nothing: the parser's, as it is, or a line
-abbrev pub words_text : WordsFault → List ℕ
-words_text (words.Help text) = string_bytes text
-words_text (words.Words text) = string_bytes text
-words_text words.Identifier = codes "identifier is not three or eight hexadecimal digits\n"
-words_text (words.Config reason) = config_line reason
-words_text (words.Misfit line) = line.items
-words_text (words.Unread line) = line.items
-words_text words.Memory = fault_line fault.Memory
 
 -- a clause of a line, where it is so
 abbrev pub clause : Bool → List ℕ → List ℕ

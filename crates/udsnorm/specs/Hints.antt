@@ -1,28 +1,27 @@
 -- Hints: what a terminal is told behind the text of a run, for the person who reads it.
-use Rattle.std.specs.Prelude.{◌≡◌, ℕ, Bool, List, [], ◌++◌, codes, bytes_eq, Option, Some, None, option_map, Result, Ok, Err, string_bytes, if◌then◌else◌}
+use Rattle.std.specs.Prelude.{◌≡◌, ℕ, List, [], ◌++◌, codes, bytes_eq, Option, Some, None, option_map, Result, Ok, Err, string_bytes, if◌then◌else◌}
 use Rattle.std.specs.Fmt.{decimal}
-use Rattle.std.specs.List.{list_any}
 use Rattle.can_log.specs.Canonical.{identifier_text}
 use Rattle.can_log.specs.declared.frame.Id.{Id}
 use Rattle.line_text.specs.Quoted.{quoted}
 use Rattle.clap.specs.Walk.{Text}
 use Rattle.trace_io.specs.declared.device.Target.{Ghosts as TargetGhosts}
-use Rattle.udsnorm.specs.Advice.{IsAdviceFor}
-use Rattle.udsnorm.specs.Commands.{command_in, words_or_normalise}
+use Rattle.command_line.specs.Advice.{IsAdviceFor}
+use Rattle.command_line.specs.Commands.{command_in, words_or_normalise}
 use Rattle.trace_report.specs.Causes.{refusal_cause_text}
 use Rattle.udsnorm.specs.Names.{behind_command, log_name}
 use Rattle.udsnorm.specs.Telling.{TookText}
-use Rattle.udsnorm.specs.Under.{UnderValue, under_in}
-use Rattle.udsnorm.specs.Words.{IsPlanned}
+use Rattle.command_line.specs.Under.{UnderValue, under_in}
+use Rattle.command_line.specs.Words.{IsPlanned}
 use Rattle.udsnorm.specs.declared.ended.Known.{Known}
 use Rattle.udsnorm.specs.declared.ended.Matter.{Matter}
 use Rattle.udsnorm.specs.declared.ended.Matter.TheVariants as matter
 use Rattle.udsnorm.specs.declared.ended.Which.{Which}
 use Rattle.udsnorm.specs.declared.ended.Which.TheVariants.{First, Second}
-use Rattle.udsnorm.specs.declared.job.Plan.{Plan}
-use Rattle.udsnorm.specs.declared.job.Plan.TheVariants.{One, Two}
-use Rattle.udsnorm.specs.declared.job.WordsFault.{WordsFault}
-use Rattle.udsnorm.specs.declared.profiled.SeenProfile.{SeenProfile}
+use Rattle.command_line.specs.declared.job.Plan.{Plan}
+use Rattle.command_line.specs.declared.job.Plan.TheVariants.{One, Two}
+use Rattle.command_line.specs.declared.job.WordsFault.{WordsFault}
+use Rattle.command_line.specs.declared.seen_profile.SeenProfile.{SeenProfile}
 
 -- ---- the line
 
@@ -95,10 +94,6 @@ pub record ToldAwaited {E : Type 0} (errors : TargetGhosts E) (given : List Text
   pub asked : Result Plan WordsFault
   pub planned : IsPlanned (words_or_normalise given) seen asked
   pub told : TookText (awaited_line asked) (errors.failures old) (errors.failures new) (errors.taken old) (errors.taken new)
-
--- the words ask for hints: one of them is `--hints`
-abbrev pub asks_for_hints : List Text → Bool
-asks_for_hints given = list_any (λ word. bytes_eq word (codes "--hints")) given
 
 -- the name of this log of a plan, if it has one
 abbrev pub name_in : Plan → Which → Option (List ℕ)

@@ -9,15 +9,15 @@ use Rattle.trace_log.specs.declared.summary.Summary.{Summary}
 use Rattle.trace_report.specs.Causes.{cause_of}
 use Rattle.trace_report.specs.declared.cause.RefusalCause.{RefusalCause}
 use Rattle.trace_run.specs.Script.{GlimpseValue}
-use Rattle.udsnorm.specs.declared.commands.Job.{Job}
-use Rattle.udsnorm.specs.declared.commands.Job.TheVariants as job
+use Rattle.command_line.specs.declared.commands.Job.{Job}
+use Rattle.command_line.specs.declared.commands.Job.TheVariants as job
 use Rattle.udsnorm.specs.declared.ended.Known.{Known}
 use Rattle.udsnorm.specs.declared.ended.Matter.{Matter}
 use Rattle.udsnorm.specs.declared.ended.Matter.TheVariants as matter
 use Rattle.udsnorm.specs.declared.ended.Which.{Which}
 use Rattle.udsnorm.specs.declared.ended.Which.TheVariants.{First, Second}
-use Rattle.udsnorm.specs.declared.opening.OpenFault.{OpenFault}
-use Rattle.udsnorm.specs.declared.opening.OpenFault.TheVariants.{Missing, Denied, Other}
+use Rattle.command_line.specs.declared.open_faults.OpenFault.{OpenFault}
+use Rattle.command_line.specs.declared.open_faults.OpenFault.TheVariants.{Missing, Denied, Other}
 use Rattle.udsnorm.specs.declared.pair_jobs.PairAnswer.{PairAnswer}
 
 -- this is known of this log

@@ -1,8 +1,4 @@
-pub mod Values
-pub mod Commands
-pub mod Shown
-pub mod Configured
-pub mod Words
+pub mod Engines
 pub mod Status
 pub mod FaultLines
 pub mod Telling
@@ -13,8 +9,6 @@ pub mod Profiled
 pub mod Known
 pub mod Asked
 pub mod Names
-pub mod Under
-pub mod Advice
 pub mod Hints
 pub mod Process
 pub mod proving

@@ -1,6 +1,6 @@
 -- What the system says of the files of logs.
 use Rattle.std.specs.Prelude.{ℕ, List}
-use Rattle.udsnorm.specs.declared.opening.OpenFault.{OpenFault}
+use Rattle.command_line.specs.declared.open_faults.OpenFault.{OpenFault}
 
 -- Something that the system says: that it opened this file by this name; that it can open none by this name, and why;
 -- that these two files are one stream, or that they are not; that a file is one stream with that of this name, or is not.

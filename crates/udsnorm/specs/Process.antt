@@ -5,14 +5,15 @@ use Rattle.trace_io.specs.Counted.{CountedReader}
 use Rattle.trace_io.specs.declared.device.Source.{Ghosts as SourceGhosts}
 use Rattle.trace_io.specs.declared.device.Target.{Ghosts as TargetGhosts}
 use Rattle.udsnorm.specs.Asked.{DidWords}
-use Rattle.udsnorm.specs.Commands.{command_in, words_or_normalise}
-use Rattle.udsnorm.specs.Hints.{GaveHint, ToldAwaited, asks_for_hints}
+use Rattle.command_line.specs.Commands.{command_in, words_or_normalise}
+use Rattle.udsnorm.specs.Hints.{GaveHint, ToldAwaited}
+use Rattle.command_line.specs.Words.{asks_for_hints}
 use Rattle.udsnorm.specs.Opening.{Saying}
 use Rattle.udsnorm.specs.Profiled.{IsSeenOf}
 use Rattle.udsnorm.specs.declared.ended.Known.{Known}
-use Rattle.udsnorm.specs.declared.job.Plan.{Plan}
-use Rattle.udsnorm.specs.declared.job.WordsFault.{WordsFault}
-use Rattle.udsnorm.specs.declared.profiled.SeenProfile.{SeenProfile}
+use Rattle.command_line.specs.declared.job.Plan.{Plan}
+use Rattle.command_line.specs.declared.job.WordsFault.{WordsFault}
+use Rattle.command_line.specs.declared.seen_profile.SeenProfile.{SeenProfile}
 use Rattle.udsnorm.specs.declared.Terminals.{Terminals}
 
 -- What the error output took before a run: the line that standard input is read, where somebody waits at a terminal, and

@@ -7,9 +7,9 @@ use Rattle.trace_io.specs.Counted.{CountedReader}
 use Rattle.trace_io.specs.Stream.{Gave}
 use Rattle.trace_io.specs.declared.device.Source.{Ghosts as SourceGhosts}
 use Rattle.udsnorm.specs.Opening.{Saying, apart, opened, refused, shared}
-use Rattle.udsnorm.specs.declared.opening.OpenFault.{OpenFault}
-use Rattle.udsnorm.specs.declared.profiled.SeenProfile.{SeenProfile}
-use Rattle.udsnorm.specs.declared.profiled.SeenProfile.TheVariants as seen
+use Rattle.command_line.specs.declared.open_faults.OpenFault.{OpenFault}
+use Rattle.command_line.specs.declared.seen_profile.SeenProfile.{SeenProfile}
+use Rattle.command_line.specs.declared.seen_profile.SeenProfile.TheVariants as seen
 
 -- The log of the file that was opened by this name, of which nothing was read.
 pub record IsUnread {F : Type 0} (says : Saying F → Type 0) (file : SourceGhosts (CountedReader F)) (name : List ℕ) (log : CountedReader F) : Type 0 where

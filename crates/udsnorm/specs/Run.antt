@@ -12,13 +12,13 @@ use Rattle.trace_io.specs.Stream.{Took}
 use Rattle.trace_run.specs.Script.{glimpse_of}
 use Rattle.trace_io.specs.declared.device.Source.{Ghosts as SourceGhosts}
 use Rattle.trace_io.specs.declared.device.Target.{Ghosts as TargetGhosts}
-use Rattle.udsnorm.specs.Commands.{EngineAnswers, EngineNeeds, EngineReads, EngineWritesEagerly, PairEngineAnswers, PairEngineNeedsForLeft, PairEngineNeedsForRight, PairEngineReads, has_text}
+use Rattle.udsnorm.specs.Engines.{EngineAnswers, EngineNeeds, EngineReads, EngineWritesEagerly, PairEngineAnswers, PairEngineNeedsForLeft, PairEngineNeedsForRight, PairEngineReads, has_text}
 use Rattle.udsnorm.specs.Ending.{ComesTo, answer_written, flushes, status_of_run, status_of_run_of_two}
 use Rattle.udsnorm.specs.FaultLines.{run_text, run_two_text}
 use Rattle.udsnorm.specs.Telling.{TookText, WroteText}
-use Rattle.udsnorm.specs.declared.commands.Job.{Job}
+use Rattle.command_line.specs.declared.commands.Job.{Job}
 use Rattle.udsnorm.specs.declared.pair_jobs.PairAnswer.{PairAnswer}
-use Rattle.udsnorm.specs.declared.pair_jobs.PairJob.{PairJob}
+use Rattle.command_line.specs.declared.commands.PairJob.{PairJob}
 
 -- What a run over one log did, which has this name on a page and has to be clean where the run is strict: from its
 -- input to its output and its error output, its exit status, and the outcome that this is of.

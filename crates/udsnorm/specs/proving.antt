@@ -1,5 +1,4 @@
 -- Devices of proof, apart from the definitions that the promises are made of.
 pub mod Flushed
 pub mod Pairs
-pub mod Rows
 pub mod Sinks

@@ -5,12 +5,10 @@ ghost use Rattle.udsnorm.specs.Hints.{name_in};
 ghost use Rattle.udsnorm.specs.Known.{IsKnownBy, IsKnownByFault, IsKnownByTwo, known_by_counts, known_of_done, known_of_pair, knows, knows_all_left_out, knows_nothing_left, knows_dropped, knows_dropped_for, knows_no_pair, knows_refused, knows_unopened};
 ghost use Rattle.udsnorm.specs.declared.ended.Matter.TheVariants as matter;
 
-use crate::commands::Job;
-use crate::job::{Plan, WordsFault};
 use crate::noticing::Noticing;
-use crate::opening::OpenFault;
 use crate::pair_jobs::PairAnswer;
 use can_log::Id;
+use command_line::{Job, OpenFault, Plan, WordsFault};
 use std::fs::OpenFile;
 use std::io::Read;
 use trace_io::{Source, Target};

@@ -2,12 +2,11 @@
 
 ghost use Rattle.std.specs.Prelude.{◌≡◌, ◌≤◌, ◌++◌, length};
 ghost use Rattle.std.specs.Fmt.{decimal};
-ghost use Rattle.udsnorm.specs.FaultLines.{config_line, fault_line, side_line, unclean_line, unclean_side, words_text};
+ghost use Rattle.udsnorm.specs.FaultLines.{fault_line, side_line, unclean_line, unclean_side};
 
-use crate::job::WordsFault;
 use crate::text::{Line, line_of};
 use text_parts::When;
-use trace_log::{CompareFault, ConfigFault, Fault, Summary};
+use trace_log::{CompareFault, Fault, Summary};
 use trace_text::Number;
 
 /// The line of a fault.
@@ -102,30 +101,5 @@ pub(crate) fn unclean_side(log: &'static str, summary: &Summary) -> Line
         Line::new()
     } else {
         unclean_line(log, summary)
-    }
-}
-
-/// The text of words that ask for nothing: the parser's, which ends with a line feed, or a line.
-pub(crate) fn words_text(fault: &WordsFault) -> &[u8]
-    ensures { result.now ≡ words_text fault.now }
-{
-    match fault {
-        WordsFault::Help(text) | WordsFault::Words(text) => text.as_bytes(),
-        WordsFault::Identifier => b"identifier is not three or eight hexadecimal digits\n",
-        WordsFault::Config(fault) => config_line(*fault).as_bytes(),
-        WordsFault::Misfit(line) | WordsFault::Unread(line) => line.as_slice(),
-        WordsFault::Memory => b"out of memory\n",
-    }
-}
-
-/// The line of a configuration that there is not.
-fn config_line(fault: ConfigFault) -> &'static str
-    ensures { result.now ≡ config_line fault }
-{
-    match fault {
-        ConfigFault::IdRange => "identifier out of range\n",
-        ConfigFault::SameId => "tester and unit have the same identifier\n",
-        ConfigFault::SameFunctional => "functional identifier is that of tester or unit\n",
-        ConfigFault::LimitRange => "limit out of range\n",
     }
 }

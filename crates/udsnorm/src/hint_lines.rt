@@ -5,8 +5,8 @@ ghost use Rattle.udsnorm.specs.Hints.{missing_words};
 
 use crate::ended::Matter;
 use crate::names::{Behind, LogName};
-use crate::under::Under;
 use can_log::Id;
+use command_line::Under;
 use line_text::Quoted;
 use text_parts::{Part, say};
 use trace_io::TextSink;
@@ -28,7 +28,7 @@ pub(crate) struct HintLine<'a> {
 impl<'a> Part for HintLine<'a> {
     ghost use Rattle.std.specs.Prelude.{option_map};
     ghost use Rattle.udsnorm.specs.Hints.{hint_line};
-    ghost use Rattle.udsnorm.specs.Under.{under_value};
+    ghost use Rattle.command_line.specs.Under.{under_value};
 
     ghost text = { λ line. hint_line (option_map under_value line.under) line.matter (option_map (λ t. t.now) line.name) };
 
@@ -108,7 +108,7 @@ struct ExchangedLine<'a> {
 impl<'a> Part for ExchangedLine<'a> {
     ghost use Rattle.std.specs.Prelude.{option_map};
     ghost use Rattle.udsnorm.specs.Hints.{exchanged_line};
-    ghost use Rattle.udsnorm.specs.Under.{under_value};
+    ghost use Rattle.command_line.specs.Under.{under_value};
 
     ghost text = { λ line. exchanged_line (option_map under_value line.under) line.options.tester line.options.unit line.options.functional (option_map (λ t. t.now) line.options.name) };
 
@@ -137,7 +137,7 @@ struct Exchanging<'a> {
 impl<'a> Part for Exchanging<'a> {
     ghost use Rattle.std.specs.Prelude.{option_map};
     ghost use Rattle.udsnorm.specs.Hints.{exchanging};
-    ghost use Rattle.udsnorm.specs.Under.{under_value};
+    ghost use Rattle.command_line.specs.Under.{under_value};
 
     ghost text = { λ line. exchanging (option_map under_value line.under) line.options.tester line.options.unit line.options.functional (option_map (λ t. t.now) line.options.name) };
 
@@ -156,7 +156,7 @@ struct ExchangingUnder<'a>(Under<'a>, ExchangedOptions<'a>);
 impl<'a> Part for ExchangingUnder<'a> {
     ghost use Rattle.std.specs.Prelude.{Some, option_map};
     ghost use Rattle.udsnorm.specs.Hints.{exchanging};
-    ghost use Rattle.udsnorm.specs.Under.{under_value};
+    ghost use Rattle.command_line.specs.Under.{under_value};
 
     ghost text = { λ line. exchanging (Some (under_value line.0)) line.1.tester line.1.unit line.1.functional (option_map (λ t. t.now) line.1.name) };
 

@@ -3,19 +3,16 @@
 ghost use Rattle.std.specs.Prelude.{◌≡◌, ◌<◌, IfOk, OnOk, IfErr, List, true, false, map, option_map, string_bytes};
 ghost use Rattle.clap.specs.Words.{Text};
 ghost use Rattle.trace_io.specs.Counted.{IsLowCount};
-ghost use Rattle.udsnorm.specs.Commands.{command_in, words_or_normalise};
-ghost use Rattle.udsnorm.specs.Hints.{GaveHint, IsHint, ToldAwaited, asks_for_hints, awaited_line, hint_line, hint_of_plan};
-ghost use Rattle.udsnorm.specs.Under.{under_in};
-ghost use Rattle.udsnorm.specs.Words.{IsPlanned};
-ghost use Rattle.udsnorm.specs.declared.profiled.SeenProfile.{SeenProfile};
+ghost use Rattle.command_line.specs.Commands.{command_in, words_or_normalise};
+ghost use Rattle.udsnorm.specs.Hints.{GaveHint, IsHint, ToldAwaited, awaited_line, hint_line, hint_of_plan};
+ghost use Rattle.command_line.specs.Under.{under_in};
+ghost use Rattle.command_line.specs.Words.{IsPlanned};
+ghost use Rattle.command_line.specs.declared.seen_profile.SeenProfile.{SeenProfile};
 
-use crate::advice::advice_for;
 use crate::ended::{Known, Matter, Run, name_of};
 use crate::hint_lines::HintLine;
-use crate::job::{Plan, WordsFault};
 use crate::tell::tell_text;
-use crate::under::under_of;
-use crate::words::found;
+use command_line::{Plan, WordsFault, advice_for, found, under_of};
 use line_text::line_in;
 use std::alloc::{AllocError, Global};
 use std::rt::Files;
@@ -66,13 +63,6 @@ fn awaited_line(asked: &Result<Plan, WordsFault>) -> &'static str
         Ok(Plan::One { log: None, .. }) => "hint: standard input is read; Ctrl-D ends it\n",
         _ => "",
     }
-}
-
-/// Whether the words ask for hints.
-pub fn asks_for_hints(words: &[String]) -> bool
-    ensures { result ≡ asks_for_hints (map string_bytes words.now) }
-{
-    words.iter().any(|word| word.as_str() == "--hints")
 }
 
 /// The line of the hint of a run, which is empty where there is none.

@@ -4,20 +4,10 @@ ghost use Rattle.std.specs.Prelude.{◌≡◌, MatchResult, false, string_bytes,
 ghost use Rattle.udsnorm.specs.Opening.{Saying, apart, one_stream, opened, refused, shared, two_files};
 
 use crate::stream::{is_one_stream, is_stream_with};
+use command_line::{OpenFault, open_fault};
 use std::fs::{self, OpenFile};
-use std::io::{Error, ErrorKind, IsTerminal, Read};
+use std::io::{IsTerminal, Read};
 use std::rt::Files;
-
-/// Why a file can't be opened.
-#[derive(Clone, Copy)]
-pub enum OpenFault {
-    /// There is none of this name.
-    Missing,
-    /// It may not be read.
-    Denied,
-    /// Another reason.
-    Other,
-}
 
 /// Opens the files of logs. A contract over any opener names a file by what the system says of it; and only a call shows
 /// that it says so.
@@ -70,14 +60,5 @@ where
             Ok(named) => is_stream_with(file, &named),
             Err(_) => false,
         }
-    }
-}
-
-/// Why a file can't be opened, by the error.
-pub(crate) fn open_fault(error: &Error) -> OpenFault {
-    match error.kind() {
-        ErrorKind::NotFound | ErrorKind::NotADirectory => OpenFault::Missing,
-        ErrorKind::PermissionDenied => OpenFault::Denied,
-        _ => OpenFault::Other,
     }
 }

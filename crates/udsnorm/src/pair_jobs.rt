@@ -9,37 +9,26 @@ ghost use Rattle.trace_log.specs.declared.fault.Fault.{Fault as FaultValue};
 ghost use Rattle.trace_io.specs.Counted.{IsLowCount};
 ghost use Rattle.trace_pair.specs.Page.{pair_page};
 ghost use Rattle.trace_pair.specs.Titles.{title_for};
-ghost use Rattle.udsnorm.specs.Commands.{PairEngineAnswers, PairEngineNeedsForLeft, PairEngineNeedsForRight, PairEngineReads, has_text, left_file, pair_kept, pair_of, right_file, text_of_difference};
+ghost use Rattle.udsnorm.specs.Engines.{PairEngineAnswers, PairEngineNeedsForLeft, PairEngineNeedsForRight, PairEngineReads, has_text, pair_kept, pair_of, text_of_difference};
 ghost use Rattle.udsnorm.specs.Ending.{has_unclean};
 ghost use Rattle.udsnorm.specs.Telling.{WroteText};
 ghost use Rattle.udsnorm.specs.proving.Pairs.{HasItems, answer_kept, answer_of, cause_in, text_of_answer};
 ghost use Rattle.trace_report.specs.Causes as Causes;
 ghost use Rattle.trace_run.specs.Script.{glimpse_of};
 
-use crate::commands::{LEFT, LOG, OTHER, RIGHT};
 use crate::tell::is_refusal;
+use command_line::PairJob;
 use std::alloc::{AllocError, Global};
-use trace_canon::{Compared, Comparison, ComparisonStyle, compare, write_comparison};
+use trace_canon::{Compared, Comparison, compare, write_comparison};
 use trace_difference::{NamedSession, write_difference};
 use trace_io::{Source, Target};
 use trace_log::{CompareFault, Config, Fault, Summary};
 use trace_pair::{Aligned, Title, align_two, pair_style, write_pair_page};
 use trace_report::{RefusalCause, cause_of};
 use trace_run::Glimpse;
-use trace_text::Notation;
+use trace_text::{ComparisonStyle, Notation};
 use uds_difference::Difference;
 use uds_rules::Rules;
-
-/// What the program does with two logs.
-#[derive(Clone, Copy, PartialEq, Eq)]
-pub enum PairJob {
-    /// Says whether they have the same meaning, in this style.
-    Compare(ComparisonStyle),
-    /// Writes where they differ, in this notation.
-    Diff(Notation),
-    /// Writes where they differ as a page of HTML.
-    Report,
-}
 
 /// What two accepted logs are to each other, and what was counted in each.
 #[derive(Clone, Copy)]
@@ -55,26 +44,6 @@ pub struct PairDone {
     pub answer: Result<PairAnswer, CompareFault>,
     /// Whether its text was written. Where it has none, there is nothing that could fail.
     pub wrote: bool,
-}
-
-/// What the parser calls the left file of a job over two logs.
-pub(crate) fn left_file(job: PairJob) -> &'static str
-    ensures { result.now ≡ left_file job }
-{
-    match job {
-        PairJob::Compare(_) | PairJob::Diff(_) => LEFT,
-        PairJob::Report => LOG,
-    }
-}
-
-/// What it calls the right one.
-pub(crate) fn right_file(job: PairJob) -> &'static str
-    ensures { result.now ≡ right_file job }
-{
-    match job {
-        PairJob::Compare(_) | PairJob::Diff(_) => RIGHT,
-        PairJob::Report => OTHER,
-    }
 }
 
 /// Whether a job over two logs has a text of this answer.

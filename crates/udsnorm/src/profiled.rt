@@ -4,15 +4,14 @@ ghost use Rattle.std.specs.Prelude.{◌≡◌, [], List, false, true};
 ghost use Rattle.std.specs.Io.KnownBytes.{IsAtEnd};
 ghost use Rattle.clap.specs.Words.{Text, found_of, rows_of, subcommand_rows_of};
 ghost use Rattle.trace_io.specs.Stream.{Gave};
-ghost use Rattle.udsnorm.specs.Commands.{command_in};
+ghost use Rattle.command_line.specs.Commands.{command_in};
 ghost use Rattle.udsnorm.specs.Profiled.{IsApartFrom, IsSeenOf, IsSeenAt, IsSharedWith, WasRead, log_names};
-ghost use Rattle.udsnorm.specs.Words.{AreParsedAs};
+ghost use Rattle.command_line.specs.Words.{AreParsedAs};
 
-use crate::commands::{LEFT, LOG, OTHER, PROFILE, RIGHT};
 use crate::noticing::Noticing;
 use crate::opening::Opener;
-use crate::values::text_of;
 use clap::{ArgMatches, Error};
+use command_line::{LEFT, LOG, OTHER, PROFILE, RIGHT, SeenProfile, text_of};
 use profile::LONGEST_PROFILE;
 use std::alloc::Global;
 use std::io::Read;
@@ -23,19 +22,6 @@ pub(crate) const INPUT: &str = "/dev/stdin";
 
 /// How many bytes of a profile are asked for at once.
 const PIECE: usize = 4096;
-
-/// What is seen of the profile that words name. Where they name none it is not looked at.
-#[derive(Drop)]
-pub enum SeenProfile {
-    /// Its bytes: all, or more than a profile can have.
-    Read(Vec<u8>),
-    /// It can't be opened, or reading it failed.
-    Unread,
-    /// It is the pipe or the terminal that a log is to be read from.
-    Shared,
-    /// Memory was refused.
-    Memory,
-}
 
 /// Reads the profile that words name of which the parser says this.
 pub(crate) fn seen_profile<R: AllocGlobal + Opener>(

@@ -13,10 +13,11 @@ ghost use Rattle.udsnorm.specs.Telling.{TookText};
 ghost use Rattle.udsnorm.specs.proving.Flushed.{FlushedIf};
 ghost use Rattle.trace_log.specs.Devices.{AgreesWith, HasLowCounts};
 
-use crate::commands::{Job, do_job};
 use crate::ended::{OneEnd, TwoEnd};
-use crate::pair_jobs::{PairAnswer, PairJob, do_pair_job, has_text, has_unclean};
+use crate::jobs::do_job;
+use crate::pair_jobs::{PairAnswer, do_pair_job, has_text, has_unclean};
 use crate::tell::{is_refusal, tell_fault, tell_side, tell_unclean, tell_unclean_sides};
+use command_line::{Job, PairJob};
 use std::alloc::Global;
 use trace_canon::Comparison;
 use trace_io::{Source, Target, write_all};

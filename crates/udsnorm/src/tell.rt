@@ -8,10 +8,10 @@ ghost use Rattle.udsnorm.specs.FaultLines.{fault_line, one_stream_line, side_lin
 ghost use Rattle.udsnorm.specs.Status.{is_refusal as refuses, status_of};
 ghost use Rattle.udsnorm.specs.Telling.{TookText};
 
-use crate::fault_lines::{fault_line, side_line, unclean_line, unclean_side, words_text};
-use crate::job::WordsFault;
+use crate::fault_lines::{fault_line, side_line, unclean_line, unclean_side};
 use crate::pair_jobs::PairAnswer;
 use crate::run::write_flushed;
+use command_line::{WordsFault, words_text};
 use trace_io::{Target, write_all};
 use trace_log::{CompareFault, Fault, Summary};
 

@@ -23,6 +23,7 @@ use Rattle.trace_report.specs.AnswerTimes.{no_request, request_behind, slowest_i
 use Rattle.trace_report.specs.Blocks.{blocks_of}
 use Rattle.trace_report.specs.Events.{asked_all_in, asked_in, is_exchange_step, is_request_step, ends_nothing, rows_of}
 use Rattle.trace_report.specs.Front.{PageTitleValue}
+use Rattle.trace_report.specs.OtherAnswers.{last_asked, others_of}
 use Rattle.trace_report.specs.Page.{last_time}
 use Rattle.trace_report.specs.Rows.{RowValue, row_of}
 use Rattle.trace_report.specs.Rows as row
@@ -35,6 +36,7 @@ use Rattle.trace_report.specs.declared.extents.ReceptionExtents.{ReceptionExtent
 use Rattle.trace_report.specs.declared.follower.Follower.{Follower}
 use Rattle.trace_report.specs.declared.follower.NewRows.{NewRows}
 use Rattle.trace_report.specs.declared.frames.FrameCounts.{FrameCounts}
+use Rattle.trace_report.specs.declared.other_answers.Echoes.{Echoes}
 use Rattle.trace_report.specs.declared.reporter.Reporter.{Reporter}
 use Rattle.trace_report.specs.declared.times.Times.{Times}
 use Rattle.trace_report.specs.declared.row.SessionRow.{SessionRow}
@@ -144,11 +146,17 @@ pub record AreTimesOf (rows : List RowValue) (times : AnswerTimes) : Type 0 wher
   pub last : times.last ≡ request_behind no_request rows
   pub slowest : times.slowest ≡ slowest_in rows
 
--- the chart is said up to these rows
-pub record IsChartOf (rows : List RowValue) (chart : Chart) : Type 0 where
+-- this is known of what these rows asked last, and of the answers under rules that are other than was asked
+pub record AreEchoesOf (rules : List RuleValue) (rows : List RowValue) (echoes : Echoes) : Type 0 where
+  pub asked : echoes.asked ≡ last_asked rows
+  pub others : echoes.others ≡ others_of rules rows
+
+-- the chart is said under rules up to these rows
+pub record IsChartOf (rules : List RuleValue) (rows : List RowValue) (chart : Chart) : Type 0 where
   pub blocks : chart.blocks ≡ blocks_of rows
   pub tally : chart.tally ≡ tally_of rows
   pub times : AreTimesOf rows chart.times
+  pub echoes : AreEchoesOf rules rows chart.echoes
 
 -- the times of the first frame of a trace and of its last one, if it has frames
 abbrev pub times_of : List Entry → Option Times
@@ -161,5 +169,5 @@ pub record Reports (rules : List RuleValue) (title : PageTitleValue) (T : List E
   pub same : title_of reporter.title ≡ title
   pub times : reporter.times ≡ times_of T
   pub follows : Follows rules T reporter.follower
-  pub chart : IsChartOf (rows_of MESSAGE_LIMIT rules T) reporter.chart
+  pub chart : IsChartOf title.rules (rows_of MESSAGE_LIMIT rules T) reporter.chart
   pub spoken : reporter.spoken.items ≡ spoken_counts title.rules (messages MESSAGE_LIMIT T)

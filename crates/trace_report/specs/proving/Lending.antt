@@ -24,4 +24,5 @@ findings_value found = record {
   first = first_of_times found.times;
   last = last_of_times found.times;
   slowest = found.slowest.now;
+  others = found.others.now;
 }

@@ -1,5 +1,5 @@
 use Rattle.std.proofs.Common.{ap, refl, ◌∙◌}
-use Rattle.udsnorm.specs.declared.job.Plan.TheVariants.{One}
+use Rattle.command_line.specs.declared.job.Plan.TheVariants.{One}
 use Rattle.udsnorm.proofs.Done.{did_of_equal, ran_named}
 use Rattle.udsnorm.proofs.carry_out.Goals as goal
 

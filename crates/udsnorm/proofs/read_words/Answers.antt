@@ -1,6 +1,6 @@
 use Rattle.std.proofs.Common.{map}
 use Rattle.std.specs.Prelude.{string_bytes}
-use Rattle.udsnorm.specs.Commands.{words_or_normalise}
+use Rattle.command_line.specs.Commands.{words_or_normalise}
 use Rattle.udsnorm.proofs.read_words.Goals as goal
 
 pub returns : goal.returns

@@ -1,5 +1,5 @@
 use Rattle.std.proofs.Common.{inl, ap, ◌∙◌, Some}
-use Rattle.udsnorm.specs.Values.{page_name}
+use Rattle.command_line.specs.Values.{page_name}
 use Rattle.udsnorm.proofs.Done.{ran_named}
 use Rattle.udsnorm.proofs.OpenedFiles.{given_by, opened_as}
 use Rattle.udsnorm.proofs.run_file.Goals as goal

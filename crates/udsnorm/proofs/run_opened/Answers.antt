@@ -1,6 +1,6 @@
 use Rattle.std.proofs.Common.{◌≡◌, ap, ◌∙◌, List, ℕ}
-use Rattle.udsnorm.specs.Values.{shown_name}
-use Rattle.udsnorm.specs.declared.pair_jobs.PairJob.{PairJob}
+use Rattle.command_line.specs.Values.{shown_name}
+use Rattle.command_line.specs.declared.commands.PairJob.{PairJob}
 use Rattle.udsnorm.proofs.Done.{ran_named_two}
 use Rattle.udsnorm.proofs.OpenedFiles.{given_by, opened_as, two_files_as}
 use Rattle.udsnorm.proofs.run_opened.Goals as goal

@@ -7,7 +7,7 @@ use Rattle.trace_pair.specs.Page.{cause_of_pair}
 use Rattle.trace_report.specs.declared.cause.RefusalCause.{RefusalCause}
 use Rattle.trace_run.specs.Script.{GlimpseValue}
 use Rattle.uds_rules.specs.Rule.{RuleValue}
-use Rattle.udsnorm.specs.Commands.{TextOfCompared, pair_kept, pair_of, text_of_compared}
+use Rattle.udsnorm.specs.Engines.{TextOfCompared, pair_kept, pair_of, text_of_compared}
 use Rattle.udsnorm.specs.declared.pair_jobs.PairAnswer.{PairAnswer}
 
 -- an answer, without what the logs mean

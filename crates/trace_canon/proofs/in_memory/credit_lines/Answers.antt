@@ -1,7 +1,7 @@
 -- What the call wrote at its end is the text, and a failed write refused memory.
 use Rattle.std.proofs.Common.{ap, sym, ◌∙◌}
 use Rattle.trace_canon.specs.Finding.{text_of_credit_lines}
-use Rattle.trace_canon.specs.declared.credit_lines.CreditStyle.TheVariants.{Lines}
+use Rattle.trace_text.specs.declared.credit_style.CreditStyle.TheVariants.{Lines}
 use Rattle.trace_canon.proofs.GatheredTexts.{gathered, ran_in_memory}
 use Rattle.trace_canon.proofs.InMemories.{written_in_memory}
 use Rattle.trace_canon.proofs.in_memory.credit_lines.Goals as goal

@@ -25,6 +25,6 @@ run_lenient-requires-clause-machine g c = record {
   same = refl;
   times = refl;
   follows = c.start.ensures c.args.config.now.rules;
-  chart = c.start-2.ensures;
+  chart = c.start-2.ensures c.rules-rules.result.now;
   spoken = c.no_counts.ensures;
 }

@@ -7,7 +7,7 @@ use Rattle.trace_log.specs.declared.fault.CompareFault.TheVariants.{Left, Right}
 use Rattle.trace_log.specs.declared.fault.Fault.TheVariants as fault
 use Rattle.trace_pair.specs.Page.{pair_page}
 use Rattle.trace_pair.specs.Titles.{title_for}
-use Rattle.udsnorm.specs.Commands.{ComparesPair, PagesPair, text_of_difference}
+use Rattle.udsnorm.specs.Engines.{ComparesPair, PagesPair, text_of_difference}
 use Rattle.udsnorm.specs.Telling.{WroteText}
 use Rattle.udsnorm.specs.proving.Pairs.{answer_kept, cause_in, text_of_answer}
 use Rattle.trace_report.specs.declared.cause.RefusalCause.{RefusalCause}

@@ -2,7 +2,7 @@ use Rattle.std.proofs.Common.{ℕ, List, Result, ap, sym, subst, ◌∙◌}
 use Rattle.std.specs.Prelude.{IfErr, IfOk}
 use Rattle.trace_canon.specs.declared.comparer.Compared.{Compared}
 use Rattle.trace_log.specs.declared.fault.CompareFault.{CompareFault}
-use Rattle.udsnorm.specs.Commands.{text_of_difference}
+use Rattle.udsnorm.specs.Engines.{text_of_difference}
 use Rattle.udsnorm.specs.Ending.{has_unclean}
 use Rattle.udsnorm.specs.Telling.{WroteText}
 use Rattle.udsnorm.specs.proving.Pairs.{HasItems}

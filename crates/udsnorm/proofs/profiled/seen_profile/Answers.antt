@@ -1,4 +1,4 @@
-use Rattle.udsnorm.specs.Commands.{command_in}
+use Rattle.command_line.specs.Commands.{command_in}
 use Rattle.udsnorm.proofs.OpenedFiles.{memory_of, seen_by}
 use Rattle.udsnorm.proofs.profiled.seen_profile.Goals as goal
 

@@ -1,22 +1,13 @@
 -- The message that a frame completes is said with the place of its first frame, as JSON also as a reply; then the starts
 -- are moved, and the open request is that behind the message.
 use Rattle.std.proofs.Common.{◌≡◌, ap, sym, subst, ◌∙◌}
-use Rattle.std.specs.Prelude.{option_map}
-use Rattle.std.proofs.lemmas.Result.{on_err_weaker}
 use Rattle.isotp_receive.specs.declared.TheConstants.{MESSAGE_LIMIT}
-use Rattle.uds_message.specs.Message.{sid}
 use Rattle.uds_exchange.specs.Judging.{sent}
-use Rattle.uds_exchange.specs.Order.{open_request}
-use Rattle.uds_exchange.specs.proving.Deciding.{Begins}
-use Rattle.trace_log.specs.Messages.{messages_under}
 use Rattle.trace_run.proofs.Promises.{completes_judged}
-use Rattle.trace_canon.specs.MemoryNeeded.{IsRequest, messages_needs}
 use Rattle.trace_canon.specs.MessagesScript.{told_reply}
 use Rattle.trace_canon.specs.OpenRequests.{reply_behind}
 use Rattle.trace_canon.specs.proving.Asking.{asked_with}
-use Rattle.trace_canon.proofs.AskedRequests.{asked_next, asked_on, begins_as_request}
-use Rattle.trace_canon.proofs.CompletedMessages.{completes_such}
-use Rattle.trace_canon.proofs.Results.{two_ok}
+use Rattle.trace_canon.proofs.AskedRequests.{asked_next, asked_on}
 use Rattle.trace_canon.proofs.SaidMessages.{nothing_said, object_said, worded_said}
 use Rattle.trace_canon.proofs.messenger.MessengerMachine.event.Goals as goal
 
@@ -52,7 +43,7 @@ returns-in-Text-clause-ok g c = λ rules start T e seen stood.
     )
 
 pub returns-in-Json-clause-ok : goal.returns-in-Json-clause-ok
-returns-in-Json-clause-ok g c = two_ok c.say_next_object.result (λ now says rules start T e seen stood.
+returns-in-Json-clause-ok g c = λ rules start T e seen stood.
     let what = c.args.seen in
     let self = c.args.self.now in
     let judged = c.in-Some.message in
@@ -70,17 +61,8 @@ returns-in-Json-clause-ok g c = two_ok c.say_next_object.result (λ now says rul
         same_rules = stood.same_rules;
         begun = c.take-first.ensures.begun T e seen.event stood.begun;
         asked = λ objects.
-            now ∙ ap (λ request. asked_with judged.step request judged.bytes.now what.micros) asked
+            c.say_next_object.ensures.now ∙ ap (λ request. asked_with judged.step request judged.bytes.now what.micros) asked
             ∙ sym (asked_next rules T e judged what.micros completes seen.event.micros);
       },
-      subst (λ text. g.S.TextSink.says c.args.out.now text c.say_next_object.new.out) said says,
-    )) c.say_next_object.ensures.now c.say_next_object.ensures.says
-
-pub returns-in-Json-clause-needs : goal.returns-in-Json-clause-needs
-returns-in-Json-clause-needs g c = on_err_weaker c.say_next_object.result (λ begins rules start T e seen stood.
-    let judged = c.in-Some.message in
-    let completes = completes_judged rules T e c.args.seen judged seen c.in-Some.is in
-    let M = messages_under rules MESSAGE_LIMIT T in
-    let is = begins_as_request (option_map sid (open_request M)) (sent judged) (subst Begins completes.step begins) in
-    subst (λ notation. messages_needs notation MESSAGE_LIMIT rules T e) (sym (sym stood.same ∙ c.in-Json.is))
-    (completes_such IsRequest rules T e judged completes is)) c.say_next_object.ensures.needs
+      subst (λ text. g.S.TextSink.says c.args.out.now text c.say_next_object.new.out) said c.say_next_object.ensures.says,
+    )

@@ -23,7 +23,7 @@ returns-clause-stands g c = λ before few is.
     let third = c.say_row_if-3.ensures.stands ((before ++ a) ++ b) (omega (arith, one, two, one_at_most c.args.rows.first, one_at_most c.args.rows.second)) second in
     let joined : ((before ++ a) ++ b) ++ d ≡ before ++ rows_in c.args.rows =
     append_assoc (before ++ a) b d ∙ append_assoc before a (b ++ d) ∙ ap (λ l. before ++ l) (sym (append_assoc a b d)) in
-    subst (λ (rows : List RowValue). IsChartOf rows c.say_row_if-3.new.self) joined third
+    subst (λ (rows : List RowValue). IsChartOf c.args.rules.now rows c.say_row_if-3.new.self) joined third
 
 pub returns-clause-says : goal.returns-clause-says
 returns-clause-says g c = λ before few is.

@@ -28,5 +28,6 @@ returns g c = record {
         first = first i;
         last = last i;
         slowest = slow i;
+        others = known.chart.echoes.others i;
       })) c.say.ensures);
 }

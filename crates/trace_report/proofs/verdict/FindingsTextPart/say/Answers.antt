@@ -14,5 +14,6 @@ returns g c =
       first = c.first_of.ensures i;
       last = c.last_of.ensures i;
       slowest = c.args.self.0.slowest.now;
+      others = c.args.self.0.others.now;
     }))
     c.say.ensures

@@ -1,0 +1,4 @@
+pub mod Configured
+pub mod Built
+pub mod Taken
+pub mod AskedHints

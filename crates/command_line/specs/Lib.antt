@@ -1,0 +1,9 @@
+pub mod Values
+pub mod Commands
+pub mod Shown
+pub mod Configured
+pub mod Words
+pub mod WordsTexts
+pub mod Under
+pub mod Advice
+pub mod proving
