@@ -63,7 +63,7 @@ back_apart_from (name ∷ front) back prefix apart =
 front_named : (front back : List NameValue) (message : List ℕ) → name_of back message ≡ None → name_of (front ++ back) message ≡ name_of front message
 front_named [] back message none = none
 front_named (name ∷ front) back message none =
-    elim (cases_Bool (stands_for name message)) [ inl e ↦ rw (e, e) refl | inr e ↦ rw (e, e) (front_named front back message none) ]
+    elim (cases_Bool (stands_for name message)) [ inl e ↦ rw e refl | inr e ↦ rw e (front_named front back message none) ]
 
 pub named_in_front : (front more : List NameValue) (name : NameValue) (message : List ℕ) → AreOrdered (front ++ name ∷ more) → is_behind name.prefix message ≡ true
     → name_of (front ++ name ∷ more) message ≡ name_of front message
@@ -86,7 +86,44 @@ named_in_back (one ∷ front) more name message apart ordered not_behind =
 
 -- ---- as a loop has them
 
--- names of which the first is this
-pub with_first : {A : Type 0} (names : List A) (name : A) → 0 < length names → name ≡ get_or names 0 name → names ≡ name ∷ drop 1 names
-with_first [] name some is = absurd (omega arith)
-with_first (one ∷ names) name some is = ap (λ first. first ∷ names) (sym is)
+first_of : {A : Type 0} (names : List A) (name : A) → 0 < length names → name ≡ get_or names 0 name → names ≡ name ∷ drop 1 names
+first_of [] name some is = absurd (omega arith)
+first_of (one ∷ names) name some is = ap (λ first. first ∷ names) (sym is)
+
+-- names in two parts, of which the second begins with this one
+pub in_parts : {A : Type 0} (value : A → NameValue) (names front back : List A) (name : A) → names ≡ front ++ back → 0 < length back → name ≡ get_or back 0 name
+    → map value names ≡ map value front ++ value name ∷ map value (drop 1 back)
+in_parts value names front back name parts some is =
+    ap (map value) parts
+    ∙ map-append value front back
+    ∙ ap (λ back. map value front ++ map value back) (first_of back name some is)
+
+-- Names that call a message as others do.
+pub record CallAs (whole names : List NameValue) (message : List ℕ) : Type 0 where
+  pub named : name_of names message ≡ name_of whole message
+  pub apart : AreApart names
+  pub ordered : AreOrdered names
+
+-- where the first name of the second part comes behind the message, the first part calls it
+pub front_calls : (whole names front more : List NameValue) (name : NameValue) (message : List ℕ) → CallAs whole names message → names ≡ front ++ name ∷ more
+    → is_behind name.prefix message ≡ true → CallAs whole front message
+front_calls whole names front more name message are parts behind = record {
+  named =
+      sym (named_in_front front more name message (subst AreOrdered parts are.ordered) behind)
+      ∙ ap (λ l. name_of l message) (sym parts)
+      ∙ are.named;
+  apart = apart_front front (name ∷ more) (subst AreApart parts are.apart);
+  ordered = ordered_front front (name ∷ more) (subst AreOrdered parts are.ordered);
+}
+
+-- and where it doesn't, the second part
+pub back_calls : (whole names front more : List NameValue) (name : NameValue) (message : List ℕ) → CallAs whole names message → names ≡ front ++ name ∷ more
+    → is_behind name.prefix message ≡ false → CallAs whole (name ∷ more) message
+back_calls whole names front more name message are parts not_behind = record {
+  named =
+      sym (named_in_back front more name message (subst AreApart parts are.apart) (subst AreOrdered parts are.ordered) not_behind)
+      ∙ ap (λ l. name_of l message) (sym parts)
+      ∙ are.named;
+  apart = apart_back front (name ∷ more) (subst AreApart parts are.apart);
+  ordered = ordered_back front (name ∷ more) (subst AreOrdered parts are.ordered);
+}

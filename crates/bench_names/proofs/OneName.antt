@@ -60,7 +60,7 @@ inserted_stands_beside (other ∷ names) name apart message =
     elim (cases_Bool (is_behind other.prefix name.prefix)) [
       | inl e ↦ rw e refl
       | inr e ↦ rw e (elim (cases_Bool (stands_for other message)) [
-        | inl stands ↦ (let silent = apart_shares_no_message other.prefix name.prefix message parts.0 stands in rw (stands, silent, stands) refl)
-        | inr silent ↦ rw (silent, silent) (inserted_stands_beside names name parts.1 message)
+        | inl stands ↦ (let silent = apart_shares_no_message other.prefix name.prefix message parts.0 stands in rw (stands, silent) refl)
+        | inr silent ↦ rw silent (inserted_stands_beside names name parts.1 message)
       ])
     ]

@@ -1,9 +1,10 @@
 -- Bytes behind others, and bytes that begin others.
-use Rattle.std.proofs.Common.{◌≡◌, ℕ, ◌<◌, ◌==◌, ◌&&◌, ◌||◌, nat_lt, not, Bool, true, false, List, [], ◌∷◌, length, take, inl, inr, refl, ap, sym, ◌∙◌, subst, arith, nat_eq}
+use Rattle.std.proofs.Common.{◌≡◌, ℕ, ◌<◌, ◌≤◌, ◌==◌, ◌&&◌, ◌||◌, nat_lt, not, Bool, true, false, List, [], ◌∷◌, length, drop, drop-cons, take, inl, inr, refl, ap, sym, ◌∙◌, subst, arith, nat_eq}
 use Rattle.std.specs.Cmp.Lexicographic.{pointwise}
 use Rattle.std.specs.List.{starts_with}
 use Rattle.std.proofs.lemmas.Bool.{and_parts, cases_Bool, eqb-true, eq-eqb, false≢true}
 use Rattle.std.proofs.lemmas.Bool.Decides.{nat_tests}
+use Rattle.std.proofs.lemmas.List.{drop_all}
 use Rattle.uds_rules.specs.Legal.{are_apart}
 use Rattle.uds_rules.specs.Rule.{begins_with}
 use Rattle.bench_names.specs.Names.{is_behind}
@@ -17,8 +18,8 @@ behind_by : (byte : ℕ) (bytes : List ℕ) (first : ℕ) (other : List ℕ) →
 behind_by byte bytes first other behind =
     elim (cases_Bool (nat_lt first byte)) [
       | inl less ↦ is_greater (let is = less in grind (arith, nat_tests))
-      | inr no ↦
-          (let rest : ((byte == first) && is_behind bytes other) ≡ true = rw no at behind in
+      | inr not_less ↦
+          (let rest : ((byte == first) && is_behind bytes other) ≡ true = rw not_less at behind in
           let parts = and_parts (byte == first) (is_behind bytes other) rest in
           is_later (eqb-true byte first parts.0) parts.1)
     ]
@@ -29,7 +30,11 @@ greater_behind byte bytes first other less = (let is : nat_lt first byte ≡ tru
 later_behind : (byte : ℕ) (bytes : List ℕ) (first : ℕ) (other : List ℕ) → byte ≡ first → is_behind bytes other ≡ true → is_behind (byte ∷ bytes) (first ∷ other) ≡ true
 later_behind byte bytes first other same behind =
     let equal : (byte == first) ≡ true = eq-eqb byte first same in
-    elim (cases_Bool (nat_lt first byte)) [ inl less ↦ rw less refl | inr no ↦ rw (no, equal, behind) refl ]
+    elim (cases_Bool (nat_lt first byte)) [ inl less ↦ rw less refl | inr not_less ↦ rw (not_less, equal, behind) refl ]
+
+-- where a message has ended, more bytes come behind it
+pub ended_behind : (prefix message : List ℕ) (at : ℕ) → at < length prefix → length message ≤ at → is_behind (drop at prefix) (drop at message) ≡ true
+ended_behind prefix message at within ended = rw (drop_all at message ended, drop-cons prefix at 0 within) refl
 
 -- what comes behind bytes that come behind others comes behind these
 pub behind_behind : (one two three : List ℕ) → is_behind one two ≡ true → is_behind two three ≡ true → is_behind one three ≡ true
@@ -74,7 +79,7 @@ begins_between (byte ∷ prefix) (b ∷ other) (first ∷ message) begins behind
       by rest same (is_later equal later) =
           elim (cases_Bool (is_behind other message)) [
             | inl behind_too ↦ absurd (false≢true (sym not_behind ∙ later_behind b other first message (equal ∙ same) behind_too))
-            | inr no ↦ rw (eq-eqb byte b (sym equal), rest later no) refl
+            | inr not_yet ↦ rw (eq-eqb byte b (sym equal), rest later not_yet) refl
           ]
 
 -- of two prefixes that are apart one comes behind the other
@@ -91,7 +96,7 @@ apart_behind (byte ∷ one) (first ∷ other) apart not_behind =
             let rest : are_apart one other ≡ true = rw (equal, turned) at apart in
             let not_rest : is_behind one other ≡ false = rw (no_more, equal) at not_behind in
             later_behind first other byte one (sym same) (apart_behind one other rest not_rest))
-        | inr differ ↦ greater_behind first other byte one (let no = no_more in let unlike = differ in grind (arith, nat_tests))
+        | inr differ ↦ greater_behind first other byte one (let none = no_more in let unlike = differ in grind (arith, nat_tests))
       ]
     ]
 
