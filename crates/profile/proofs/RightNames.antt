@@ -133,8 +133,8 @@ next_name earlier names key value rest are =
     }
 
 -- before the first name
-pub right_at_first : (members : Members) → AreRightNames members → AreRightBehind [] [] members
-right_at_first members are = record {
+pub right_at_first : (table : Members) → AreRightNames table → AreRightBehind [] [] table
+right_at_first table are = record {
   most = (let most = are.most in omega (arith, most));
   texts = are.texts;
   each = are.each;

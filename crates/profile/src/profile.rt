@@ -69,7 +69,7 @@ fn kept(
     names: Option<&Table>,
     units: &[UnitParts<'_>],
 ) -> Result<Profile, AllocError>
-    requires { AreRightNames (seen_members names.entry) }
+    requires { AreRightNames (seen_members names) }
     ensures ok { IfOk result (λ profile. profile_value profile
         ≡ record { rules = rules; names = names_among [] (seen_members names.entry); units = map parts_value units.now }) }
     ensures err { OnErr result (1 ≤ length rules + member_count (seen_members names.entry) + length units.now) }

@@ -3,6 +3,7 @@
 ghost use Rattle.std.specs.Prelude.{◌≡◌, ◌≤◌, [], take, option_map, IfOk, IfSome, OnOk, OnErr};
 ghost use Rattle.toml.specs.View.{table_view};
 ghost use Rattle.bench_names.specs.Legal.{CanStand};
+ghost use Rattle.uds_rules.specs.Pattern as Spelling;
 ghost use Rattle.profile.specs.ProfileNames as Spec;
 ghost use Rattle.profile.specs.ProfileNames.{AreRightNames, among, keys_of, name_said, names_among};
 ghost use Rattle.profile.specs.Answers.{seen_members, seen_names};
@@ -40,14 +41,20 @@ fn member_count(table: Option<&Table>) -> usize
     }
 }
 
-/// The first key of a table that shares a message with an earlier one, and the first such earlier one. It is found without
-/// memory: each key is read again for each later one.
+/// The first key of a table, if there is one, that shares a message with an earlier key, and the first such earlier key.
 fn first_shared<'a>(table: Option<&'a Table>) -> Option<Wrong<'a>>
     ensures { option_map wrong_value result ≡ Spec.first_shared [] (seen_members table.entry) }
 {
-    let Some(table) = table else {
-        return None;
-    };
+    match table {
+        Some(table) => first_shared_in(table),
+        None => None,
+    }
+}
+
+/// The same of a table. It is found without memory: each key is read again for each later one.
+fn first_shared_in<'a>(table: &'a Table) -> Option<Wrong<'a>>
+    ensures { option_map wrong_value result ≡ Spec.first_shared [] (table_view table.now) }
+{
     let mut place = 0;
     'names: for (key, _) in table.iter() {
         if let Some(earlier) = sharing_before(table, place, key.as_str()) {
@@ -68,7 +75,7 @@ fn sharing_before<'a>(table: &'a Table, count: usize, key: &str) -> Option<&'a s
         if left == 0 {
             return None;
         }
-        if are_shared(prefix_in(other.as_str()), prefix) {
+        if is_shared(other.as_str(), &prefix) {
             return Some(other.as_str());
         }
         left -= 1;
@@ -76,26 +83,38 @@ fn sharing_before<'a>(table: &'a Table, count: usize, key: &str) -> Option<&'a s
     None
 }
 
-/// Whether some message begins with two prefixes, if there are two.
-fn are_shared(one: Option<Prefix>, other: Option<Prefix>) -> bool
-    ensures { result ≡ Spec.are_shared one other }
+/// Whether some message begins with what a key spells and with a prefix, if there are both.
+fn is_shared(key: &str, prefix: &Option<Prefix>) -> bool
+    ensures { result ≡ Spec.are_shared (Spelling.prefix_in key.now) prefix.now }
 {
-    match (one, other) {
-        (Some(one), Some(other)) => !are_apart(one.bytes(), other.bytes()),
-        _ => false,
+    let Some(one) = prefix_in(key) else {
+        return false;
+    };
+    match prefix {
+        Some(other) => !are_apart(one.bytes(), other.bytes()),
+        None => false,
     }
 }
 
 /// The names that a table says, if there is one: all are right.
 pub(crate) fn kept_names(alloc: Global, table: Option<&Table>) -> Result<BenchNames, AllocError>
-    requires { AreRightNames (seen_members table.entry) }
+    requires { AreRightNames (seen_members table) }
     ensures ok { IfOk result (λ names. names ≡ names_among [] (seen_members table.entry)) }
     ensures err { OnErr result (1 ≤ Spec.member_count (seen_members table.entry)) }
 {
+    match table {
+        Some(table) => names_in(alloc, table),
+        None => Ok(BenchNames::none(alloc)),
+    }
+}
+
+/// The same of a table.
+fn names_in(alloc: Global, table: &Table) -> Result<BenchNames, AllocError>
+    requires { AreRightNames (table_view table.now) }
+    ensures ok { IfOk result (λ names. names ≡ names_among [] (table_view table.now)) }
+    ensures err { OnErr result (1 ≤ Spec.member_count (table_view table.now)) }
+{
     let mut names = BenchNames::none(alloc);
-    let Some(table) = table else {
-        return Ok(names);
-    };
     'names: for (key, value) in table.iter() {
         add_name(alloc, &mut names, key.as_str(), value.as_str())?;
     }
@@ -109,7 +128,7 @@ fn add_name(
     key: &str,
     text: Option<&str>,
 ) -> Result<(), AllocError>
-    requires { IfSome (name_said key.now (option_map (λ text. text.now) text.entry)) (CanStand names.old) }
+    requires { IfSome (name_said key.now (option_map (λ text. text.now) text)) (CanStand names.old) }
     ensures { OnOk result (names.new ≡ among names.old (name_said key.now (option_map (λ text. text.now) text.entry))) }
 {
     let Some(prefix) = prefix_in(key) else {

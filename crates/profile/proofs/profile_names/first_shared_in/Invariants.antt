@@ -2,7 +2,7 @@
 use Rattle.std.proofs.Common.{◌≡◌, ◌+◌, [], drop, length, take}
 use Rattle.toml.specs.View.{members_view}
 use Rattle.profile.specs.ProfileNames.{first_shared, keys_of}
-use Rattle.profile.proofs.profile_names.first_shared.Given as goal
+use Rattle.profile.proofs.profile_names.first_shared_in.Given as goal
 
 abbrev pub invariant-names : goal.invariant-names
 invariant-names l = record {

@@ -3,7 +3,7 @@ use Rattle.std.proofs.Common.{◌≡◌, ℕ, ◌≤◌, List, []}
 use Rattle.toml.specs.View.{members_view}
 use Rattle.profile.specs.ProfileNames.{member_count, names_among}
 use Rattle.profile.proofs.RightNames.{AreRightBehind}
-use Rattle.profile.proofs.profile_names.kept_names.Given as goal
+use Rattle.profile.proofs.profile_names.names_in.Given as goal
 
 abbrev pub invariant-names : goal.invariant-names
 invariant-names l = record {
