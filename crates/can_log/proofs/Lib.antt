@@ -37,6 +37,8 @@ pub mod LogLines
 pub mod RefusedPlaces
 pub mod RefusedLogs
 pub mod LegalOrRefused
+-- the name of an interface
+pub mod InterfaceNames
 -- the scanner
 pub mod IdentifierNumbers
 pub mod ScannerSteps

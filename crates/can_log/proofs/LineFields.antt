@@ -405,8 +405,9 @@ end_alone P h v text (b ∷ rest) form after = absurd after
 
 -- ---- a line, from its end to its front
 
-abbrev parts : Stamp → List ℕ → Body → Parts
-parts time identifier body = record { seconds = time.seconds; micros = time.micros; identifier = identifier; body = body }
+abbrev parts : Stamp → List ℕ → List ℕ → Body → Parts
+parts time interface identifier body =
+    record { seconds = time.seconds; micros = time.micros; interface = interface; identifier = identifier; body = body }
 
 -- what is read after the body, of a line with these parts
 abbrev ending_at : Parts → Reader Parts
@@ -442,63 +443,64 @@ ending_follows p q text rest f after =
     ])
 
 -- what is read after the `#` of an identifier, before it, and after the time
-abbrev body_on_at : Stamp → List ℕ → Reader Parts
-body_on_at time identifier = body_at >>= λ body. ending_at (parts time identifier body)
+abbrev body_on_at : Stamp → List ℕ → List ℕ → Reader Parts
+body_on_at time interface identifier = body_at >>= λ body. ending_at (parts time interface identifier body)
 
-abbrev pub BodyOn : Stamp → List ℕ → Parts → List ℕ → Type 0
-BodyOn time identifier = Then BodyForm (λ body. EndingForm (parts time identifier body))
+abbrev pub BodyOn : Stamp → List ℕ → List ℕ → Parts → List ℕ → Type 0
+BodyOn time interface identifier = Then BodyForm (λ body. EndingForm (parts time interface identifier body))
 
-body_on_law : (time : Stamp) (identifier : List ℕ) → Law (body_on_at time identifier) (BodyOn time identifier) Never 2
-body_on_law time identifier = then_law body_law (λ body. ending_law (parts time identifier body)) 0 2 (omega arith) (omega arith) (record {
-  follows = λ body. ending_follows (parts time identifier body);
-  begins = λ body. ending_begins (parts time identifier body);
+body_on_law : (time : Stamp) (interface identifier : List ℕ) → Law (body_on_at time interface identifier) (BodyOn time interface identifier) Never 2
+body_on_law time interface identifier = then_law body_law (λ body. ending_law (parts time interface identifier body)) 0 2 (omega arith) (omega arith) (record {
+  follows = λ body. ending_follows (parts time interface identifier body);
+  begins = λ body. ending_begins (parts time interface identifier body);
 })
 
-body_on_begins : (time : Stamp) (identifier : List ℕ) → CanEnd (BodyOn time identifier) 0 []
-body_on_begins time identifier = then_begins body_begins (λ body. ending_begins (parts time identifier body)) 0 (omega arith)
+body_on_begins : (time : Stamp) (interface identifier : List ℕ) → CanEnd (BodyOn time interface identifier) 0 []
+body_on_begins time interface identifier = then_begins body_begins (λ body. ending_begins (parts time interface identifier body)) 0 (omega arith)
 
-abbrev hash_on_at : Stamp → List ℕ → Reader Parts
-hash_on_at time identifier = byte_at (code "#") >> body_on_at time identifier
+abbrev hash_on_at : Stamp → List ℕ → List ℕ → Reader Parts
+hash_on_at time interface identifier = byte_at (code "#") >> body_on_at time interface identifier
 
-abbrev pub HashOn : Stamp → List ℕ → Parts → List ℕ → Type 0
-HashOn time identifier = Then (OneByte (code "#")) (λ _. BodyOn time identifier)
+abbrev pub HashOn : Stamp → List ℕ → List ℕ → Parts → List ℕ → Type 0
+HashOn time interface identifier = Then (OneByte (code "#")) (λ _. BodyOn time interface identifier)
 
-hash_on_law : (time : Stamp) (identifier : List ℕ) → Law (hash_on_at time identifier) (HashOn time identifier) Never 2
-hash_on_law time identifier = behind_byte (code "#") (body_on_law time identifier) (body_on_begins time identifier) 2 (omega arith) (omega arith)
+hash_on_law : (time : Stamp) (interface identifier : List ℕ) → Law (hash_on_at time interface identifier) (HashOn time interface identifier) Never 2
+hash_on_law time interface identifier =
+    behind_byte (code "#") (body_on_law time interface identifier) (body_on_begins time interface identifier) 2 (omega arith) (omega arith)
 
-hash_on_begins : (time : Stamp) (identifier : List ℕ) → CanEnd (HashOn time identifier) 1 []
-hash_on_begins time identifier = then_begins (byte_begins (code "#")) (λ _. body_on_begins time identifier) 1 (omega arith)
+hash_on_begins : (time : Stamp) (interface identifier : List ℕ) → CanEnd (HashOn time interface identifier) 1 []
+hash_on_begins time interface identifier = then_begins (byte_begins (code "#")) (λ _. body_on_begins time interface identifier) 1 (omega arith)
 
-abbrev id_on_at : Stamp → Reader Parts
-id_on_at time = identifier_at >>= hash_on_at time
+abbrev id_on_at : Stamp → List ℕ → Reader Parts
+id_on_at time interface = identifier_at >>= hash_on_at time interface
 
-abbrev pub IdOn : Stamp → Parts → List ℕ → Type 0
-IdOn time = Then IdForm (HashOn time)
+abbrev pub IdOn : Stamp → List ℕ → Parts → List ℕ → Type 0
+IdOn time interface = Then IdForm (HashOn time interface)
 
-id_on_law : (time : Stamp) → Law (id_on_at time) (IdOn time) Never 9
-id_on_law time = then_law id_law (hash_on_law time) 1 9 (omega arith) (omega arith) (record {
+id_on_law : (time : Stamp) (interface : List ℕ) → Law (id_on_at time interface) (IdOn time interface) Never 9
+id_on_law time interface = then_law id_law (hash_on_law time interface) 1 9 (omega arith) (omega arith) (record {
   follows = λ v w text rest form after. then_head (NotIn Hex) rest form (λ tail. follows_first (NotIn Hex) form.front tail (code "#") [] form.first refl);
-  begins = hash_on_begins time;
+  begins = hash_on_begins time interface;
 })
 
-id_on_begins : (time : Stamp) → CanEnd (IdOn time) 4 []
-id_on_begins time = then_begins id_begins (hash_on_begins time) 4 (omega arith)
+id_on_begins : (time : Stamp) (interface : List ℕ) → CanEnd (IdOn time interface) 4 []
+id_on_begins time interface = then_begins id_begins (hash_on_begins time interface) 4 (omega arith)
 
 abbrev place_on_at : Stamp → Reader Parts
-place_on_at time = place_at >> id_on_at time
+place_on_at time = place_at >>= id_on_at time
 
 abbrev pub PlaceOn : Stamp → Parts → List ℕ → Type 0
-PlaceOn time = Then PlaceForm (λ _. IdOn time)
+PlaceOn time = Then PlaceForm (IdOn time)
 
 place_on_law : (time : Stamp) → Law (place_on_at time) (PlaceOn time) Never 9
-place_on_law time = then_law place_law (λ _. id_on_law time) 4 9 (omega arith) (omega arith) (record {
+place_on_law time = then_law place_law (id_on_law time) 4 9 (omega arith) (omega arith) (record {
   follows = λ v w text rest form after.
       then_head (NotIn Space) rest form (λ tail. run_head (NotIn Space) Hex 3 8 form.value form.front tail form.first.0 (omega arith) hex_no_space);
-  begins = λ _. id_on_begins time;
+  begins = id_on_begins time;
 })
 
 place_on_begins : (time : Stamp) → CanEnd (PlaceOn time) 7 []
-place_on_begins time = then_begins place_begins (λ _. id_on_begins time) 7 (omega arith)
+place_on_begins time = then_begins place_begins (id_on_begins time) 7 (omega arith)
 
 -- a line after its `(`
 abbrev pub FrameForm : Parts → List ℕ → Type 0

@@ -134,7 +134,7 @@ form_parts : (o : Option Parts) (bytes : List ℕ) → LineForm o bytes → AreL
 form_parts o bytes (inl f) =
     let (p, form, is) = f.second in
     let l = line_to p f.back form in
-    subst AreLineParts is (subst AreParts l.parts (record { identifier = l.legal.identifier; body = fits_body l.line.body l.legal.body }))
+    subst AreLineParts is (subst AreParts l.parts (record { interface = l.legal.interface; identifier = l.legal.identifier; body = fits_body l.line.body l.legal.body }))
 form_parts o bytes (inr (p, e, is)) = subst AreLineParts is tt
 
 -- The parts of a line are of their lengths.

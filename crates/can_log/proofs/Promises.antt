@@ -1,6 +1,7 @@
 -- The proofs of the public laws, each under the name of its statement in specs/, for the crates above to cite; and at the
 -- end what holds of each element of a list. Nothing else of proofs/ is for them.
 pub use Rattle.can_log.proofs.LineReads.{one_meaning as line_means_at_most_one, front_legal as front_has_completion, sixteen_enough as sixteen_are_enough}
+pub use Rattle.can_log.proofs.InterfaceNames.{interface_is_told}
 pub use Rattle.can_log.proofs.LineFeeds.{line_clean as line_has_no_line_feed, completion_clean as completable_has_no_line_feed, lines_clean as lines_have_no_line_feed}
 pub use Rattle.can_log.proofs.LineLength.{means_length as line_is_short}
 pub use Rattle.can_log.proofs.RecordedBytes.{line_records_bytes}

@@ -244,7 +244,7 @@ line_to p text f =
         mark = m.1;
       };
       spelled = ends_of line text mark.back whole at;
-      parts = is;
+      parts = ap (λ interface. record (parts_in line) { interface = interface }) gap_is ∙ is;
     }
 
 abbrev stamp_in : LineSpelling → Stamp
@@ -262,10 +262,10 @@ frame_from l end is at =
     let ending_text = spell_mark l.mark ++ end in
     let ending : EndingForm (parts_in l) (parts_in l) ending_text = then_of l.mark (spell_mark l.mark) end (mark_from l.mark is.mark) (tt, at, refl) in
     let body_text = spell_body l.body ++ ending_text in
-    let body : BodyOn time l.identifier (parts_in l) body_text = then_of l.body (spell_body l.body) ending_text (body_from l.body is.body) ending in
-    let hash : HashOn time l.identifier (parts_in l) (code "#" ∷ body_text) = then_of tt (codes "#") body_text refl body in
+    let body : BodyOn time l.interface l.identifier (parts_in l) body_text = then_of l.body (spell_body l.body) ending_text (body_from l.body is.body) ending in
+    let hash : HashOn time l.interface l.identifier (parts_in l) (code "#" ∷ body_text) = then_of tt (codes "#") body_text refl body in
     let id_text = l.identifier ++ code "#" ∷ body_text in
-    let id : IdOn time (parts_in l) id_text = then_of l.identifier l.identifier (code "#" ∷ body_text) (id_from is.identifier) hash in
+    let id : IdOn time l.interface (parts_in l) id_text = then_of l.identifier l.identifier (code "#" ∷ body_text) (id_from is.identifier) hash in
     let behind : PlaceOn time (parts_in l) ((l.gap ++ interface_gap) ++ id_text) = then_of l.interface (l.gap ++ interface_gap) id_text place id in
     then_of time time_text ((l.gap ++ interface_gap) ++ id_text) (stamp_from time is.seconds is.micros) behind
 

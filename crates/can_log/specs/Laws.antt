@@ -1,11 +1,11 @@
 -- What holds of lines and logs, whoever reads them.
-use Rattle.std.specs.Prelude.{◌≡◌, ℕ, ◌≤◌, ◌⊎◌, List, [], ◌∷◌, ◌++◌, Option, Some, Ok, length}
+use Rattle.std.specs.Prelude.{◌≡◌, ℕ, ◌≤◌, ◌⊎◌, ◌↔◌, IsTrue, List, [], ◌∷◌, ◌++◌, Option, Some, Ok, length}
 use Rattle.std.specs.List.{concat}
 use Rattle.can_log.specs.declared.scanner.Scan.{Scan}
 use Rattle.can_log.specs.declared.frame.Stamped.{Stamped}
 use Rattle.hex.specs.Hex.{decode_of}
 use Rattle.can_log.specs.Frame.{AreBytes}
-use Rattle.can_log.specs.Line.{IsDataText, LineMeans, IsNoLine, bytes_spelled}
+use Rattle.can_log.specs.Line.{IsDataText, IsInterface, LineMeans, IsNoLine, bytes_spelled, is_interface}
 use Rattle.can_log.specs.Refused.{NoLineFeed, HasCompletion, HasNoCompletion}
 use Rattle.can_log.specs.Log.{LogMeans, IsRefusedIn}
 use Rattle.can_log.specs.Scanning.{Standing, Scans, Finishes}
@@ -18,6 +18,10 @@ LineMeansAtMostOne = (bytes : List ℕ) (what other : Option Stamped) → LineMe
 -- bytes are a line, which means something, or no line
 abbrev pub LineOrNoLine : Type 0
 LineOrNoLine = (bytes : List ℕ) → ((what : Option Stamped) × LineMeans bytes what) ⊎ IsNoLine bytes
+
+-- the test of a name passes on names of interfaces, and on nothing else
+abbrev pub InterfaceIsTold : Type 0
+InterfaceIsTold = (name : List ℕ) → IsTrue (is_interface name) ↔ IsInterface name
 
 -- a line that means something holds no line feed
 abbrev pub LineHasNoLineFeed : Type 0

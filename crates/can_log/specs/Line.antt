@@ -1,10 +1,11 @@
 -- A line of a candump log (can-utils, `candump -l` and `-L`): its parts as they are spelled, their bytes, which parts
 -- are legal, and what a line means.
 use Prim.Native.Char.{code}
-use Rattle.std.specs.Prelude.{◌≡◌, ℕ, ◌+◌, ◌*◌, ◌≤◌, ◌%◌, ◌⊎◌, ◌==◌, ◌||◌, Bool, IsTrue, if◌then◌else◌}
+use Rattle.std.specs.Prelude.{◌≡◌, ℕ, ◌+◌, ◌*◌, ◌≤◌, ◌%◌, ◌⊎◌, ◌==◌, ◌&&◌, ◌||◌, nat_eq, nat_le, Bool, IsTrue, if◌then◌else◌}
 use Rattle.std.specs.Prelude.{List, [], ◌∷◌, ◌++◌, length, codes, Option, Some, None, ⊤}
-use Rattle.std.specs.List.{AllByRecursion}
+use Rattle.std.specs.List.{AllByRecursion, list_all}
 use Rattle.std.specs.Char.{is_ascii_digit, is_ascii_hexdigit, digit_value}
+use Rattle.std.specs.Cmp.Lexicographic.{pointwise}
 use Rattle.std.specs.Int.{is_in_range}
 use Rattle.std.specs.Str.Parse.{digits_value}
 use Rattle.can_log.specs.declared.frame.Id.{Id}
@@ -65,6 +66,22 @@ pub record IsRunOf (test : ℕ → Bool) (least most : ℕ) (bytes : List ℕ) :
 abbrev pub IsGap : List ℕ → Type 0
 IsGap = IsRunOf (λ b. b == code " ") 1 16
 
+-- the name of an interface: 1 to 15 visible characters, neither spaces nor control characters
+abbrev pub IsInterface : List ℕ → Type 0
+IsInterface = IsRunOf (is_in_range (code "!") (code "~")) 1 15
+
+-- the same as a test
+abbrev pub is_interface : List ℕ → Bool
+is_interface name = nat_le 1 (length name) && (nat_le (length name) 15 && list_all (is_in_range (code "!") (code "~")) name)
+
+-- the name that bytes are, if they are one
+abbrev pub interface_of : List ℕ → Option (List ℕ)
+interface_of bytes = if is_interface bytes then Some bytes else None
+
+-- two names are one, byte by byte: a front of a name is another name
+abbrev pub same_interface : List ℕ → List ℕ → Bool
+same_interface one other = pointwise nat_eq one other
+
 -- three hexadecimal digits of value at most 7FF, or eight of any value
 abbrev pub IsIdentifierText : List ℕ → Type 0
 IsIdentifierText digits = IsRunOf is_ascii_hexdigit 3 8 digits × (((length digits ≡ 3) × (digits_value 16 digits ≤ 0x7FF)) ⊎ (length digits ≡ 8))
@@ -95,7 +112,7 @@ pub record IsLineSpelling (line : LineSpelling) : Type 0 where
   pub seconds : IsRunOf is_ascii_digit 1 10 line.seconds
   pub micros : IsRunOf is_ascii_digit 6 6 line.micros
   pub gap : IsGap line.gap
-  pub interface : IsRunOf (is_in_range (code "!") (code "~")) 1 15 line.interface
+  pub interface : IsInterface line.interface
   pub second_gap : IsGap line.second_gap
   pub identifier : IsIdentifierText line.identifier
   pub body : IsBody line.body
@@ -123,21 +140,23 @@ data_of (classic digits raw_dlc) = bytes_spelled digits
 data_of (remote digit raw_dlc) = []
 data_of (fd flags digits) = bytes_spelled digits
 
--- The parts that say what is recorded. The gaps, the interface and the mark say nothing of it.
+-- The parts that say what is recorded, and on which interface. The gaps and the mark say nothing of it.
 pub record Parts : Type 0 where
   pub seconds : List ℕ
   pub micros : List ℕ
+  pub interface : List ℕ
   pub identifier : List ℕ
   pub body : Body
 
 -- those of a line
 abbrev pub parts_in : LineSpelling → Parts
-parts_in line = record { seconds = line.seconds; micros = line.micros; identifier = line.identifier; body = line.body }
+parts_in line = record { seconds = line.seconds; micros = line.micros; interface = line.interface; identifier = line.identifier; body = line.body }
 
--- the frame that a line with these parts records, and its time in microseconds
+-- the frame that a line with these parts records, its time in microseconds, and its interface
 abbrev pub stamped_of : Parts → Stamped
 stamped_of parts = record {
   micros = digits_value 10 parts.seconds * 1000000 + digits_value 10 parts.micros;
+  interface = parts.interface;
   frame = record { id = identifier_of parts.identifier; kind = frame_kind_of parts.body; bytes = data_of parts.body };
 }
 

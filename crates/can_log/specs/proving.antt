@@ -6,3 +6,4 @@ pub mod Plain
 pub mod Padded
 pub mod Judging
 pub mod Taking
+pub mod Named

@@ -34,7 +34,7 @@ pub(crate) enum Class {
 
 impl Class {
     #[inline(always)]
-    fn contains(self, b: u8) -> bool
+    pub(crate) fn contains(self, b: u8) -> bool
         ensures { result ≡ is_in self b }
     {
         match self {

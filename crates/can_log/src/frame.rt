@@ -1,5 +1,6 @@
 //! A frame of a CAN log: its identifier, its kind and its data, and when it was recorded.
 
+use crate::interface::Interface;
 use crate::meaning::lay_data;
 use arrayvec::ArrayVec;
 use std::marker::Model;
@@ -141,11 +142,13 @@ impl Frame {
     }
 }
 
-/// A frame and the time stamp of its line.
+/// A frame, the time stamp of its line, and the interface that it was recorded on.
 #[derive(Debug, Drop, PartialEq, Eq)]
 pub struct Stamped {
     /// Microseconds, from whatever instant the log counts from.
     pub micros: u64,
     /// The frame.
     pub frame: Frame,
+    /// The interface.
+    pub interface: Interface,
 }

@@ -16,6 +16,9 @@ pub(crate) const LANES: usize = 16;
 /// How many bytes two vectors have.
 pub(crate) const BOTH: usize = 2 * LANES;
 
+/// No lane: what is picked there is 0.
+pub(crate) const NONE: u8 = 0x80;
+
 /// Which bytes behind a stamp are hexadecimal digits.
 #[derive(Clone, Copy)]
 pub(crate) struct Told {

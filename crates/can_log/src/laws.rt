@@ -1,7 +1,7 @@
 //! What holds of lines and logs. A law is a call without a body: a proof that needs it calls it, and nothing runs.
 
 ghost use Rattle.can_log.specs.Laws.{LineMeansAtMostOne, LineOrNoLine, LineHasNoLineFeed, LineIsShort, LineRecordsBytes, DataIsWhatHexDecodes};
-ghost use Rattle.can_log.specs.Laws.{FrontHasCompletion, CompletableHasNoLineFeed, SixteenAreEnough};
+ghost use Rattle.can_log.specs.Laws.{InterfaceIsTold, FrontHasCompletion, CompletableHasNoLineFeed, SixteenAreEnough};
 ghost use Rattle.can_log.specs.Laws.{RefusedPlaceIsOne, RefusedLogHasNoMeanings};
 ghost use Rattle.can_log.specs.Laws.{LogIsLegalOrRefused, LogMeansAtMostOne, LogTellsOne};
 ghost use Rattle.can_log.specs.Laws.{StartStands, ScanReadsOn, FinishReadsEnd, ScanningReadsTheLog};
@@ -19,6 +19,11 @@ pub fn line_means_at_most_one()
 /// Bytes are a line, which means something, or no line.
 pub fn line_or_no_line()
     ensures { LineOrNoLine }
+{}
+
+/// The test of a name passes on names of interfaces, and on nothing else.
+pub fn interface_is_told()
+    ensures { InterfaceIsTold }
 {}
 
 /// A line that means something holds no line feed.

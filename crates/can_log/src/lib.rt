@@ -16,7 +16,7 @@
 //!
 //! | What it answers | Files | Definitions |
 //! |---|---|---|
-//! | [`Frame`], [`Id`], [`Kind`], with its time [`Stamped`] | `frame` | `Frame` |
+//! | [`Frame`], [`Id`], [`Kind`], with its time and its [`Interface`] [`Stamped`] | `frame`, `interface` | `Frame` |
 //! | [`Wanted`]: the identifiers whose frames are wanted | `wanted` | `Wanted` |
 //! | what a line means, byte by byte | `field`, `line`, `meaning`, `judgement` | `Line`, `Refused` |
 //! | the same of a line of plain form, sixteen bytes at once | `lanes`, `stamp`, `plain`, `plain_fields`, `padded` | those of a line |
@@ -30,6 +30,7 @@ mod digit_lanes;
 mod field;
 mod frame;
 mod hexadecimal;
+mod interface;
 mod judgement;
 mod lanes;
 pub mod laws;
@@ -50,6 +51,7 @@ pub use canonical::{
 };
 pub use digit_lanes::digits_of_bytes;
 pub use frame::{Frame, Id, Kind, Stamped};
+pub use interface::Interface;
 pub use line_clock::LineClock;
 pub use scanner::{Scan, Scanner};
 pub use wanted::Wanted;

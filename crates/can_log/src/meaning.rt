@@ -1,4 +1,4 @@
-//! What the digits of a line mean: its time, and its frame.
+//! What the fields of a line mean: its time, its frame and its interface.
 
 ghost use Rattle.std.specs.Prelude.{◌≡◌, ◌<◌, ◌≤◌, ◌+◌, ◌-◌, ◌*◌, ◌/◌, ◌++◌, ℕ, length, take, drop, IsTrue, []};
 ghost use Rattle.std.specs.List.{AllByRecursion};
@@ -11,11 +11,12 @@ ghost use Rattle.can_log.specs.proving.Views.{parts_of};
 use crate::canonical::{append, write_at};
 use crate::frame::{Frame, Id, Kind, Stamped};
 use crate::hexadecimal::hex_digit_value;
+use crate::interface::Interface;
 use crate::line::{Body, Parts};
 use arrayvec::ArrayVec;
 use std::simd::prelude::*;
 
-/// The frame that a line of these parts records, and its time.
+/// The frame that a line of these parts records, its time and its interface.
 #[inline(always)]
 pub(crate) fn stamped_of(parts: Parts<'_>) -> Stamped
     requires { AreParts (parts_of parts) }
@@ -30,6 +31,7 @@ pub(crate) fn stamped_of(parts: Parts<'_>) -> Stamped
     Stamped {
         micros: parts.seconds.value * 1_000_000 + parts.micros.value,
         frame: Frame::from_parts(id, kind, data),
+        interface: Interface::named(parts.interface),
     }
 }
 

@@ -6,6 +6,7 @@ ghost use Rattle.can_log.specs.Line.{parts_in, identifier_of, stamped_of, frame_
 ghost use Rattle.can_log.specs.proving.Plain.{ArePlainFields, IsStamp, time_spelled, digits_of, body_with, plain_text, spelling_of};
 
 use crate::frame::{Id, Kind, Stamped};
+use crate::interface::Interface;
 use crate::lanes::{LANES, Told, decimal_front, other_digits_of_both};
 use crate::plain_fields::{
     PlainBody, PlainEnding, ROOM_OF_CLASSIC, end_in_front, identifier_in_front, interface_in_front,
@@ -22,6 +23,8 @@ pub(crate) struct Fields<'a> {
     /// One to ten digits of seconds, a point, and six digits of microseconds.
     stamp: &'a [u8],
     interface: &'a [u8],
+    /// The interface, and the bytes after it.
+    from_interface: &'a [u8],
     identifier: &'a [u8],
     /// The identifier, decoded where its digits are counted: there it is known how many they are.
     id: Id,
@@ -43,9 +46,9 @@ pub(crate) fn plain_line<const HAS_TEN_SECONDS: bool>(piece: &[u8]) -> Option<(F
     if piece.len() < ROOM_OF_CLASSIC {
         return None;
     }
-    let (stamp, rest) = stamp_in_front::<HAS_TEN_SECONDS>(piece)?;
-    let others = other_digits_of_both(rest);
-    let (interface, rest) = interface_in_front(rest)?;
+    let (stamp, from_interface) = stamp_in_front::<HAS_TEN_SECONDS>(piece)?;
+    let others = other_digits_of_both(from_interface);
+    let (interface, rest) = interface_in_front(from_interface)?;
     let told = Told {
         others,
         passed: interface.len() + 1,
@@ -59,6 +62,7 @@ pub(crate) fn plain_line<const HAS_TEN_SECONDS: bool>(piece: &[u8]) -> Option<(F
     let fields = Fields {
         stamp,
         interface,
+        from_interface,
         identifier,
         id,
         body,
@@ -109,6 +113,7 @@ pub(crate) fn put_plain_stamped(fields: Fields<'_>, id: Id, stamped: &mut Stampe
     ensures { stamped.new ≡ stamped_of (parts_in (spelling_of fields.entry)) }
 {
     stamped.micros = plain_time(fields);
+    stamped.interface = plain_interface(fields);
     stamped
         .frame
         .change(id, plain_kind(fields), plain_digits(fields));
@@ -125,6 +130,15 @@ pub(crate) fn plain_time(fields: Fields<'_>) -> u64
     } else {
         time_of_short(fields.stamp)
     }
+}
+
+/// The interface of a line with these fields.
+#[inline(always)]
+pub(crate) fn plain_interface(fields: Fields<'_>) -> Interface
+    requires { ArePlainFields fields }
+    ensures { result ≡ fields.entry.interface.now }
+{
+    Interface::in_front(fields.interface.len(), fields.from_interface)
 }
 
 /// The kind of the frame: an FD frame has flags.

@@ -8,8 +8,11 @@ ghost use Rattle.can_log.specs.declared.frame.Stamped.{Stamped as StampedValue};
 ghost use Rattle.can_log.specs.proving.Plain.{ArePlainFields, spelling_of};
 
 use crate::frame::{Frame, Id, Kind, Stamped};
+use crate::interface::Interface;
 use crate::meaning::decoded;
-use crate::plain::{Fields, plain_digits, plain_kind, plain_time, put_plain_stamped};
+use crate::plain::{
+    Fields, plain_digits, plain_interface, plain_kind, plain_time, put_plain_stamped,
+};
 use crate::scanner::Scan;
 
 /// Answers what a line of plain form records, which has `used` bytes of the piece. Where the frame of the answer before has as
@@ -36,6 +39,7 @@ pub(crate) fn answer_plain(answer: &mut Scan, used: usize, line: u64, fields: Fi
         used,
         line,
         plain_time(fields),
+        plain_interface(fields),
         id,
         plain_kind(fields),
         plain_digits(fields),
@@ -50,13 +54,14 @@ fn answer_anew(
     used: usize,
     line: u64,
     micros: u64,
+    interface: Interface,
     id: Id,
     kind: Kind,
     digits: &[u8],
 )
     requires text { IsDataText 128 digits.now }
     requires frame { IsFrame id kind (bytes_spelled digits.now) }
-    ensures { answer.new ≡ Line used line (Some (record { micros = micros; frame = record { id = id; kind = kind; bytes = bytes_spelled digits.now } })) }
+    ensures { answer.new ≡ Line used line (Some (record { micros = micros; interface = interface; frame = record { id = id; kind = kind; bytes = bytes_spelled digits.now } })) }
 {
     *answer = Scan::Line {
         used,
@@ -64,6 +69,7 @@ fn answer_anew(
         what: Some(Stamped {
             micros,
             frame: Frame::from_parts(id, kind, decoded(digits)),
+            interface,
         }),
     };
 }

@@ -10,6 +10,7 @@ ghost use Rattle.can_log.specs.declared.field.Class.TheVariants.{Visible};
 
 use crate::frame::Id;
 use crate::hexadecimal::is_hex_digit;
+use crate::interface::LONGEST_INTERFACE;
 use crate::lanes::{LANES, Told, hex_front, hex_run, visible_front};
 use crate::meaning::identifier_of;
 
@@ -19,9 +20,6 @@ pub(crate) const ROOM_OF_CLASSIC: usize = 62 + LANES;
 
 /// The most digits of data of an FD frame, and what else the lanes reach.
 const ROOM_OF_FD_DATA: usize = 128 + LANES;
-
-/// The longest name of an interface.
-const LONGEST_INTERFACE: usize = 15;
 
 /// What follows the identifier and its `#`.
 #[derive(Clone, Copy)]

@@ -7,7 +7,7 @@ ghost use Rattle.std.specs.Char.{is_ascii_digit};
 ghost use Rattle.std.specs.Str.Parse.{digits_value};
 ghost use Rattle.can_log.specs.proving.Plain.{AreDecimals, IsStamp, seconds_of, micros_of, time_spelled, padded, IsLongestFront};
 
-use crate::lanes::{LANES, first_set};
+use crate::lanes::{LANES, NONE, first_set};
 use std::simd::prelude::*;
 
 /// How many bytes a stamp has with ten digits of seconds, the most.
@@ -21,9 +21,6 @@ const SHORTEST_STAMP: usize = 8;
 
 /// The digit of nothing.
 const ZERO: u8 = b'0';
-
-/// No lane: what is picked there is 0.
-const NONE: u8 = 0x80;
 
 /// The zeros in front of the digits of a stamp, by how many digits of seconds there are behind the first.
 static ZEROS: [[u8; LANES]; 9] = [

@@ -5,7 +5,7 @@ use Rattle.std.specs.Prelude.{ℕ, ◌%◌, ◌&&◌, ◌||◌, Bool, true, fals
 use Rattle.can_log.specs.declared.field.Class.TheVariants.{Digit, Hex, Space, Visible, UpToEight, AboveEight, Mark}
 use Rattle.can_log.specs.declared.frame.Stamped.{Stamped}
 use Rattle.can_log.specs.proving.FieldReader.{Reader, refused, ◌>>=◌, ◌>>◌, done, either, only, run_at, byte_at}
-use Rattle.can_log.specs.Line.{Body, classic, remote, fd, Parts, stamped_of, IsDataText, IsIdentifierText}
+use Rattle.can_log.specs.Line.{Body, classic, remote, fd, Parts, stamped_of, IsDataText, IsIdentifierText, IsInterface}
 
 -- the digits of a time
 pub record Stamp : Type 0 where
@@ -110,13 +110,13 @@ end_at (b ∷ c ∷ bytes) = if b == code "\r" then Err (refused (c ∷ bytes)) 
 abbrev pub frame_at : Reader Parts
 frame_at = do
   stamp ← stamp_at
-  place_at
+  interface ← place_at
   identifier ← identifier_at
   byte_at (code "#")
   body ← body_at
   mark_at
   end_at
-  done (record { seconds = stamp.seconds; micros = stamp.micros; identifier = identifier; body = body })
+  done (record { seconds = stamp.seconds; micros = stamp.micros; interface = interface; identifier = identifier; body = body })
 
 -- a line that is not blank
 abbrev pub opened_at : Reader (Option Parts)
@@ -148,8 +148,9 @@ FitsBody (classic digits raw_dlc) = IsDataText 16 digits
 FitsBody (remote digit raw_dlc) = ⊤
 FitsBody (fd flags digits) = IsDataText 128 digits
 
--- the identifier and the body are those of a line
+-- the interface, the identifier and the body are those of a line
 pub record AreParts (p : Parts) : Type 0 where
+  pub interface : IsInterface p.interface
   pub identifier : IsIdentifierText p.identifier
   pub body : FitsBody p.body
 

@@ -130,10 +130,13 @@ plain_text fields =
     codes "(" ++ (fields.stamp.now ++ (codes ") " ++ (fields.interface.now ++ (codes " "
     ++ (fields.identifier.now ++ (codes "#" ++ end_text fields.body fields.ending))))))
 
--- the fields are legal, and the identifier is the one spelled
+-- the fields are legal, the interface is the first of the bytes from its own on, as many as the lanes reach, and the
+-- identifier is the one spelled
 pub record ArePlainFields (fields : Fields) : Type 0 where
   pub stamp : IsStamp fields.stamp.now
   pub interface : IsRunOf (is_in Visible) 1 15 fields.interface.now
+  pub begins : take (length fields.interface.now) fields.from_interface.now ≡ fields.interface.now
+  pub room : 16 ≤ length fields.from_interface.now
   pub identifier : IsIdentifierText fields.identifier.now
   pub decoded : fields.id ≡ identifier_of fields.identifier.now
   pub body : IsPlainBody fields.body

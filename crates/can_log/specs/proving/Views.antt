@@ -40,7 +40,7 @@ mark_of (Some p) = Some (p.0.now, p.1.now)
 
 -- the parts that the meaning of a line rests on
 abbrev pub parts_of : Parts → line.Parts
-parts_of p = record { seconds = digits_in p.seconds; micros = digits_in p.micros; identifier = p.identifier.now; body = body_of p.body }
+parts_of p = record { seconds = digits_in p.seconds; micros = digits_in p.micros; interface = p.interface.now; identifier = p.identifier.now; body = body_of p.body }
 
 -- those of a line that may be blank
 abbrev pub line_parts_of : Option Parts → Option line.Parts

@@ -11,7 +11,7 @@ told_behind others piece behind interface rest room front mask is few =
 
 pub identifier_in_front-requires-clause-told : goal.identifier_in_front-requires-clause-told
 identifier_in_front-requires-clause-told g c =
-    told_behind c.other_digits_of_both-others.result c.args.piece.now c.in_ok-stamp.rest.now c.in_ok-interface.interface.now c.in_ok-interface.rest.now
+    told_behind c.other_digits_of_both-others.result c.args.piece.now c.in_ok-stamp.from_interface.now c.in_ok-interface.interface.now c.in_ok-interface.rest.now
     (omega (arith, c.if-piece-lt-ROOM_OF_CLASSIC.false)) c.in_ok-stamp.ensures.length c.other_digits_of_both-others.ensures
     c.in_ok-interface.ensures.parts c.in_ok-interface.ensures.interface.few
 
@@ -19,7 +19,7 @@ pub end_in_front-requires-clause-told : goal.end_in_front-requires-clause-told
 end_in_front-requires-clause-told g c =
     let identifier = c.in_ok-identifier.identifier.now in
     tells_on _ (length c.in_ok-interface.interface.now + 1 + length identifier + 1) c.in_ok-interface.rest.now identifier c.in_ok-identifier.rest.now 35
-    (told_behind c.other_digits_of_both-others.result c.args.piece.now c.in_ok-stamp.rest.now c.in_ok-interface.interface.now c.in_ok-interface.rest.now
+    (told_behind c.other_digits_of_both-others.result c.args.piece.now c.in_ok-stamp.from_interface.now c.in_ok-interface.interface.now c.in_ok-interface.rest.now
     (omega (arith, c.if-piece-lt-ROOM_OF_CLASSIC.false)) c.in_ok-stamp.ensures.length c.other_digits_of_both-others.ensures
     c.in_ok-interface.ensures.parts c.in_ok-interface.ensures.interface.few)
     c.in_ok-identifier.ensures.parts (omega arith) (omega (arith, c.in_ok-interface.ensures.interface.few, c.in_ok-identifier.ensures.identifier.0.few))

@@ -16,4 +16,4 @@ returns c =
     let spelled : bytes_spelled c.plain_digits-2.result.now ≡ data_of (body_with body.flags (digits_of body)) =
     ap bytes_spelled c.plain_digits-2.ensures.digits ∙ plain_bytes body.flags (digits_of body)
     in
-    c.answer_anew.ensures ∙ rw (c.plain_time.ensures, c.requires.identifier, c.plain_kind.ensures, spelled) refl
+    c.answer_anew.ensures ∙ rw (c.plain_time.ensures, c.plain_interface.ensures, c.requires.identifier, c.plain_kind.ensures, spelled) refl
