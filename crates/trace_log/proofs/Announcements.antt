@@ -17,7 +17,7 @@ use Rattle.isotp_receive.proofs.Promises.{kept_is_within}
 use Rattle.trace_log.specs.proving.Announcing.{AnnouncesWithin}
 use Rattle.trace_log.specs.Needing.{IsKeptForMessage}
 use Rattle.trace_log.specs.Refusal.{oversize, EachWithin}
-use Rattle.trace_log.specs.Settings.{Settings, channel_by}
+use Rattle.trace_log.specs.Settings.{Settings, channel_of_line}
 use Rattle.trace_log.specs.Trace.{trace_from, trace}
 use Rattle.trace_log.proofs.OneMoreFrame.{oversize_of_blank, oversize_of_foreign}
 use Rattle.isotp_receive.specs.Channels.{layout_on}
@@ -43,7 +43,7 @@ each_more T e each one = AllByRecursion-append AnnouncesWithin T (e ∷ []) each
 -- ---- the lines
 
 -- a line of one of the two directions announces what its frame does
-pub oversize_of_one : (settings : Settings) (stamped : Stamped) (d : Channel) → channel_by settings stamped.frame.id ≡ Some d
+pub oversize_of_one : (settings : Settings) (stamped : Stamped) (d : Channel) → channel_of_line settings stamped ≡ Some d
     → oversize MESSAGE_LIMIT settings (Some stamped) ≡ oversize_in MESSAGE_LIMIT (layout_on d (layout_of stamped.frame))
 unfolding oversize
 oversize_of_one settings stamped d is = rw is refl
@@ -54,12 +54,12 @@ each_from : (settings : Settings) (n : ℕ) (meanings : List (Option Stamped)) �
 unfolding trace_from layout_in
 each_from settings n [] all = tt
 each_from settings n (None ∷ meanings) all = (ap is_none (oversize_of_blank MESSAGE_LIMIT settings), each_from settings (n + 1) meanings all)
-each_from settings n (Some stamped ∷ meanings) all = by (channel_by settings stamped.frame.id) refl (λ rest. each_from settings (n + 1) meanings rest)
+each_from settings n (Some stamped ∷ meanings) all = by (channel_of_line settings stamped) refl (λ rest. each_from settings (n + 1) meanings rest)
   where
     entries : Option Channel → List Entry
     entries o = option_to_list (option_map (λ channel. record { line = n; micros = stamped.micros; channel = channel; frame = stamped.frame }) o)
 
-    by : (d : Option Channel) → channel_by settings stamped.frame.id ≡ d
+    by : (d : Option Channel) → channel_of_line settings stamped ≡ d
         → (AllByRecursion AnnouncesWithin (trace_from settings (n + 1) meanings) → EachWithin MESSAGE_LIMIT settings meanings) → EachWithin MESSAGE_LIMIT settings (Some stamped ∷ meanings)
     by None is later =
         let rest = subst (λ o. AllByRecursion AnnouncesWithin (entries o ++ trace_from settings (n + 1) meanings)) is all in
@@ -73,6 +73,6 @@ each_within settings meanings all = each_from settings 1 meanings all
 
 -- the line announces what its frame does
 pub line_announces : (settings : Settings) (what : Option Stamped) (stamped : Stamped) (d : Channel) (o : Option ℕ) → what ≡ Some stamped
-    → Some d ≡ channel_by settings stamped.frame.id → oversize_in MESSAGE_LIMIT (layout_on d (layout_of stamped.frame)) ≡ o → oversize MESSAGE_LIMIT settings what ≡ o
+    → Some d ≡ channel_of_line settings stamped → oversize_in MESSAGE_LIMIT (layout_on d (layout_of stamped.frame)) ≡ o → oversize MESSAGE_LIMIT settings what ≡ o
 line_announces settings what stamped d o is direction announces =
     ap (oversize MESSAGE_LIMIT settings) is ∙ oversize_of_one settings stamped d (sym direction) ∙ announces

@@ -9,7 +9,8 @@ use Rattle.direction.specs.declared.Dir.TheVariants as dir
 use Rattle.can_log.specs.Wanted.{IsForeign}
 use Rattle.can_log.specs.declared.frame.Id.{Id}
 use Rattle.can_log.specs.declared.frame.Id.TheVariants as id
-use Rattle.trace_log.specs.Settings.{Settings, AreSettings, IsFunctionalOf, wanted_of, id_of, id_on, is_same_id, has_id, channel_by}
+use Rattle.can_log.specs.declared.frame.Stamped.{Stamped}
+use Rattle.trace_log.specs.Settings.{Settings, AreSettings, IsFunctionalOf, wanted_of, id_of, id_on, is_same_id, has_id, is_read_on, channel_by, channel_of_line}
 use Rattle.trace_log.specs.Laws.{ChannelIsById}
 
 equal_ids : (a b : Id) → is_same_id a b ≡ true → a ≡ b
@@ -57,6 +58,19 @@ foreign_channel settings id foreign =
     let second = other_id id settings.unit foreign.not_second in
     let third = not_functional settings.functional id foreign.not_third in
     rw (first, second, third) refl
+
+-- on whatever interface
+pub foreign_line : (settings : Settings) (stamped : Stamped) → IsForeign (wanted_of settings) stamped.frame.id → channel_of_line settings stamped ≡ None
+unfolding channel_of_line
+foreign_line settings stamped foreign = by (is_read_on settings.interface stamped.interface) where
+  by : (is_read : Bool) → cond is_read (channel_by settings stamped.frame.id) None ≡ None
+  by true = foreign_channel settings stamped.frame.id foreign
+  by false = refl
+
+-- where all interfaces are read, a frame has the channel of its identifier
+pub line_on_all : (settings : Settings) (stamped : Stamped) → settings.interface ≡ None → channel_of_line settings stamped ≡ channel_by settings stamped.frame.id
+unfolding channel_of_line
+line_on_all settings stamped all = ap (λ interface. cond (is_read_on interface stamped.interface) (channel_by settings stamped.frame.id) None) all
 
 other_than_both : (settings : Settings) (id : Id) → AreSettings settings → settings.functional ≡ Some id → (id ≢ settings.tester) × (id ≢ settings.unit)
 other_than_both settings id are is = let both = subst (IsFunctionalOf settings.tester settings.unit) is are.functional in (both.1, both.2)

@@ -21,7 +21,7 @@ use Rattle.isotp_segment.specs.CanonicalFrames.{canonical_frames}
 use Rattle.isotp_segment.specs.Timed.{all_frames}
 use Rattle.uds_exchange.specs.Meaning.{meaning, flattened}
 use Rattle.uds_rules.specs.Under.{under}
-use Rattle.trace_log.specs.Settings.{Settings, channel_by}
+use Rattle.trace_log.specs.Settings.{Settings, channel_of_line}
 use Rattle.trace_log.specs.Trace.{trace_from, trace}
 use Rattle.trace_log.specs.Messages.{messages_of_lines}
 use Rattle.trace_log.specs.CanonicalLog.{log_of_frames, canonical_log, canonical_log_of_lines}
@@ -127,7 +127,7 @@ larger_in limit larger (Err fault) more none = refl
 larger_one : (limit larger : ℕ) (settings : Settings) (what : Option Stamped) → limit ≤ larger → oversize limit settings what ≡ None → oversize larger settings what ≡ None
 unfolding oversize
 larger_one limit larger settings None more none = refl
-larger_one limit larger settings (Some stamped) more none = go (channel_by settings stamped.frame.id) none
+larger_one limit larger settings (Some stamped) more none = go (channel_of_line settings stamped) none
   where
     go : (d : Option Channel) → oversize_by limit d stamped.frame ≡ None → oversize_by larger d stamped.frame ≡ None
     go None is = refl
@@ -148,7 +148,7 @@ entry_announces limit line stamped rest None none later = later
 entry_announces limit line stamped rest (Some d) none later = (none, later)
 
 one_announces_none : (limit : ℕ) (settings : Settings) (stamped : Stamped) → oversize limit settings (Some stamped) ≡ None
-    → oversize_by limit (channel_by settings stamped.frame.id) stamped.frame ≡ None
+    → oversize_by limit (channel_of_line settings stamped) stamped.frame ≡ None
 unfolding oversize
 one_announces_none limit settings stamped none = none
 
@@ -157,7 +157,7 @@ unfolding trace_from
 trace_announces limit line settings [] each = tt
 trace_announces limit line settings (None ∷ meanings) each = trace_announces limit (line + 1) settings meanings each.1
 trace_announces limit line settings (Some stamped ∷ meanings) each =
-    entry_announces limit line stamped (trace_from settings (line + 1) meanings) (channel_by settings stamped.frame.id)
+    entry_announces limit line stamped (trace_from settings (line + 1) meanings) (channel_of_line settings stamped)
     (one_announces_none limit settings stamped (none_is (oversize limit settings (Some stamped)) each.0))
     (trace_announces limit (line + 1) settings meanings each.1)
 

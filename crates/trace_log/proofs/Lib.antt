@@ -2,6 +2,8 @@ pub mod Results
 pub mod Limits
 pub mod Directions
 pub mod Traces
+pub mod FallingStamps
+pub mod NotedInterfaces
 mod RuledCounts
 pub mod LogLines
 pub mod OneMoreFrame

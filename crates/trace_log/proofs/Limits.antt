@@ -22,6 +22,7 @@ largest_limit settings max_bytes are = (
     unit = are.unit;
     apart = are.apart;
     functional = are.functional;
+    interface = are.interface;
     least = both.0;
     most = both.1;
     rules = are.rules;

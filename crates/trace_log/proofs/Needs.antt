@@ -7,7 +7,7 @@ use Rattle.trace_log.specs.ReadAs.{takes_all}
 use Rattle.trace_log.specs.Needing.{BeginsWithLines, HasFrame}
 use Rattle.trace_log.specs.Feeding.{StopsWithin}
 use Rattle.trace_log.specs.proving.Receiving.{entry_in}
-use Rattle.trace_log.specs.Settings.{Settings, channel_by}
+use Rattle.trace_log.specs.Settings.{Settings, channel_of_line}
 use Rattle.trace_log.specs.Trace.{trace}
 use Rattle.trace_log.proofs.ReadAs.{all_taken}
 use Rattle.trace_log.proofs.Receivings.{trace_next}
@@ -27,7 +27,7 @@ begins_with_lines settings log given meanings what place =
 
 -- the frame of that line is one of which this holds
 pub has_frame : (Holds : List Entry → Entry → Type 0) (settings : Settings) (log : List ℕ) (given : ℕ) (meanings : List (Option Stamped)) (what : Option Stamped)
-    (stamped : Stamped) (d : Channel) → StopsWithin settings.max_bytes log given meanings what → what ≡ Some stamped → Some d ≡ channel_by settings stamped.frame.id
+    (stamped : Stamped) (d : Channel) → StopsWithin settings.max_bytes log given meanings what → what ≡ Some stamped → Some d ≡ channel_of_line settings stamped
     → Holds (trace settings meanings) (entry_in meanings stamped d) → HasFrame Holds settings log
 has_frame Holds settings log given meanings what stamped d place is direction holds = record {
   before = meanings;

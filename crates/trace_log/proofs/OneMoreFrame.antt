@@ -8,7 +8,7 @@ use Rattle.uds_rules.specs.Rule.{RuleValue}
 use Rattle.uds_rules.specs.Under.{under}
 use Rattle.uds_rules.proofs.Promises.{under_goes_on}
 use Rattle.trace_log.specs.Messages.{messages_under}
-use Rattle.trace_log.specs.Settings.{Settings, channel_by}
+use Rattle.trace_log.specs.Settings.{Settings, channel_of_line}
 use Rattle.trace_log.specs.Refusal.{oversize}
 use Rattle.isotp_receive.specs.Channels.{dir_of}
 
@@ -27,7 +27,7 @@ pub oversize_of_blank : (limit : ℕ) (settings : Settings) → oversize limit s
 unfolding oversize
 oversize_of_blank limit settings = refl
 
-pub oversize_of_foreign : (limit : ℕ) (settings : Settings) (stamped : Stamped) → channel_by settings stamped.frame.id ≡ None
+pub oversize_of_foreign : (limit : ℕ) (settings : Settings) (stamped : Stamped) → channel_of_line settings stamped ≡ None
     → oversize limit settings (Some stamped) ≡ None
 unfolding oversize
 oversize_of_foreign limit settings stamped direction = rw direction refl

@@ -6,7 +6,7 @@ use Rattle.can_log.specs.Log.{log_lines, LinesMean, LogMeans}
 use Rattle.can_log.specs.declared.frame.Stamped.{Stamped}
 use Rattle.trace_log.specs.Needing.{HasFrame}
 use Rattle.trace_log.specs.proving.Receiving.{entry_in}
-use Rattle.trace_log.specs.Settings.{Settings, channel_by}
+use Rattle.trace_log.specs.Settings.{Settings, channel_of_line}
 use Rattle.trace_log.specs.Trace.{trace, trace_from}
 use Rattle.trace_log.proofs.Traces.{trace_blank, trace_directed, trace_foreign}
 use Rattle.isotp_receive.specs.declared.channel.Channel.{Channel}
@@ -19,9 +19,9 @@ module _ (settings : Settings) (log : List ℕ) where
   own_or_on : (before later : List (List ℕ)) (line : List ℕ) (past : List (Option Stamped)) (what : Option Stamped) → log_lines log ≡ (before ++ line ∷ []) ++ later
       → LinesMean (before ++ line ∷ []) (past ++ what ∷ []) → (trace settings (past ++ what ∷ []) ≡ trace settings past → HasOwn) → HasOwn
   own_or_on before later line past None parts means on = on (trace_blank settings past)
-  own_or_on before later line past (Some stamped) parts means on = by (channel_by settings stamped.frame.id) refl
+  own_or_on before later line past (Some stamped) parts means on = by (channel_of_line settings stamped) refl
     where
-      by : (d : Option Channel) → d ≡ channel_by settings stamped.frame.id → HasOwn
+      by : (d : Option Channel) → d ≡ channel_of_line settings stamped → HasOwn
       by None is = on (trace_foreign settings past stamped is)
       by (Some d) is = record {
         before = past;

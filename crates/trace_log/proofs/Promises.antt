@@ -1,6 +1,6 @@
 -- Lemmas for the proofs of the crates above: of the laws, of the lines of a log that were read, and of what is received of it.
 pub use Rattle.trace_log.proofs.Results.{four_ok, handed_on}
-pub use Rattle.trace_log.proofs.Directions.{foreign_channel}
+pub use Rattle.trace_log.proofs.Directions.{foreign_line}
 pub use Rattle.trace_log.proofs.Traces.{trace_from-append}
 pub use Rattle.trace_log.proofs.OneMoreFrame.{messages_more, messages_under_more}
 pub use Rattle.trace_log.proofs.Announcements.{announces_kept, each_more, each_within, line_announces}
@@ -16,7 +16,8 @@ pub use Rattle.trace_log.proofs.Streams.{given_agrees, when_ok}
 pub use Rattle.trace_log.proofs.ScannedLogs.{IsBadBehind, bad_counts, bad_line, no_place_counts, not_refused_at_limit, read_before_oversize}
 pub use Rattle.trace_log.proofs.LastReads.{reads_legal, reads_unrefused}
 pub use Rattle.trace_log.proofs.StoppedRuns.{HaveCome, bad_at_end, bad_in_front, have_come, oversize_stops, read_to_bad, read_to_limit, writes_front, writes_front_of_all, writes_to_failed_read}
-pub use Rattle.trace_log.proofs.Receivings.{few_frames, more_exactly, one_if, receives_next, receives_same, trace_next, trace_same_blank, trace_same_foreign}
+pub use Rattle.trace_log.proofs.NotedInterfaces.{interfaces_next, interfaces_same_blank, interfaces_same_foreign}
+pub use Rattle.trace_log.proofs.Receivings.{counted_and_noted, few_frames, more_exactly, one_if, receives_next, receives_same, trace_next, trace_same_blank, trace_same_foreign}
 pub use Rattle.trace_log.proofs.Summaries.{summed_up}
 pub use Rattle.trace_log.proofs.Needs.{all_begin, begins_with_lines, has_frame}
 pub use Rattle.trace_log.proofs.OwnFrames.{has_own_frame}

@@ -34,7 +34,7 @@ use Rattle.uds_rules.specs.Rule.{RuleValue, made_of}
 use Rattle.uds_rules.specs.Under.{sent_as, under, left_out}
 use Rattle.uds_rules.proofs.Promises.{left_out_are_the_rest, mask_keeps_kind, no_byte_is_added, no_byte_is_made_up, no_rules_keep_all}
 use Rattle.uds_rules.proofs.Promises.{what_is_left_stays, what_stays_is_left}
-use Rattle.trace_log.specs.Settings.{Settings, AreSettings, without_rules, id_of}
+use Rattle.trace_log.specs.Settings.{Settings, AreSettings, without_rules, on_all_interfaces, id_of, channel_of_line}
 use Rattle.trace_log.specs.Trace.{trace_from, trace}
 use Rattle.trace_log.specs.Messages.{messages_of_lines, meaning_of_lines, HasMeaning}
 use Rattle.trace_log.specs.CanonicalLog.{canonical_lines, lines_size, log_of_frames, canonical_log, canonical_log_of_lines}
@@ -43,7 +43,7 @@ use Rattle.trace_log.specs.Summing.{summary_of}
 use Rattle.trace_log.specs.Outcome.{Accepted, IsOutcome}
 use Rattle.trace_log.specs.Laws.{Records, Certifies, IsMessageLimit, IsCleanSummary, IsOwnCanonicalLog, IsCanonicalFor, NoRulesChangeNothing, CanonicalIsCanonical, SameMeaningSameText, RecordingHasCanonicalLog}
 use Rattle.trace_log.specs.Laws.{CanonicalLogLength, CanonicalLogLengthBySides, CleanSummaryIsCertificate, CleanLogIsRecording, SummaryCertifies, PendingAreTheRest}
-use Rattle.trace_log.proofs.Directions.{channel_of_side}
+use Rattle.trace_log.proofs.Directions.{channel_of_side, line_on_all}
 use Rattle.trace_log.proofs.LogLines.{lines_are_few}
 use Rattle.trace_log.proofs.Sendable.{IsCarried, IsSendable, messages_sendable, trace_of_bytes}
 use Rattle.isotp_receive.specs.Channels.{channel_of}
@@ -73,26 +73,31 @@ canonical_lines_mean settings n (frame ∷ later) are full few = (
   canonical_lines_mean settings (n + 1) later are full.1 (omega arith),
 )
 
+-- where all interfaces are read, it has the channel of its side
+line_of_side : (settings : Settings) (n : ℕ) (frame : Dir × List ℕ) → AreSettings settings → settings.interface ≡ None
+    → channel_of_line settings (stamped_at settings n frame) ≡ Some (channel_of frame.0)
+line_of_side settings n frame are all = line_on_all settings (stamped_at settings n frame) all ∙ channel_of_side settings frame.0 are
+
 -- their trace: each frame a millisecond after the one before
-canonical_trace : (settings : Settings) (line n micros : ℕ) (frames : List (Dir × List ℕ)) → AreSettings settings → micros ≡ n * 1000
+canonical_trace : (settings : Settings) (line n micros : ℕ) (frames : List (Dir × List ℕ)) → AreSettings settings → settings.interface ≡ None → micros ≡ n * 1000
     → trace_from settings line (stamped_from settings n frames) ≡ timed (id_of settings) line micros frames
 unfolding trace_from
-canonical_trace settings line n micros [] are time = refl
-canonical_trace settings line n micros (frame ∷ later) are time =
-    let direction = channel_of_side settings frame.0 are in
-    let rest = canonical_trace settings (line + 1) (n + 1) (micros + 1000) later are (omega arith) in
+canonical_trace settings line n micros [] are all time = refl
+canonical_trace settings line n micros (frame ∷ later) are all time =
+    let direction = line_of_side settings n frame are all in
+    let rest = canonical_trace settings (line + 1) (n + 1) (micros + 1000) later are all (omega arith) in
     rw (direction, rest, time) refl
 
 -- and none announces too much
-canonical_within : (limit : ℕ) (settings : Settings) (line n micros : ℕ) (past : List Entry) (frames : List (Dir × List ℕ)) → AreSettings settings
+canonical_within : (limit : ℕ) (settings : Settings) (line n micros : ℕ) (past : List Entry) (frames : List (Dir × List ℕ)) → AreSettings settings → settings.interface ≡ None
     → EachClean limit past (timed (id_of settings) line micros frames) → EachWithin limit settings (stamped_from settings n frames)
 unfolding oversize layout_in
-canonical_within limit settings line n micros past [] are clean = tt
-canonical_within limit settings line n micros past (frame ∷ later) are clean =
+canonical_within limit settings line n micros past [] are all clean = tt
+canonical_within limit settings line n micros past (frame ∷ later) are all clean =
     let entry : Entry = record { line = line; micros = micros; channel = channel_of frame.0; frame = (stamped_at settings n frame).frame } in
-    let direction = channel_of_side settings frame.0 are in (
+    let direction = line_of_side settings n frame are all in (
       rw direction (ap is_none (kept_is_within limit past entry clean.0.kept)),
-      canonical_within limit settings (line + 1) (n + 1) (micros + 1000) (past ++ entry ∷ []) later are clean.1,
+      canonical_within limit settings (line + 1) (n + 1) (micros + 1000) (past ++ entry ∷ []) later are all clean.1,
     )
 
 -- ---- a canonical log is a log
@@ -129,11 +134,11 @@ record ReadsAs (limit : ℕ) (settings : Settings) (text : List ℕ) (M : List M
   same : messages_of_lines limit settings meanings ≡ M
   clean : IsClean limit (trace settings meanings)
 
-reads_again : (limit : ℕ) (settings : Settings) (text : List ℕ) (M : List Message) → IsMessageLimit limit → AreSettings settings
+reads_again : (limit : ℕ) (settings : Settings) (text : List ℕ) (M : List Message) → IsMessageLimit limit → AreSettings settings → settings.interface ≡ None
     → AllByRecursion (IsSendable limit) M → under settings.rules M ≡ M → text ≡ canonical_log limit settings M → length text ≤ settings.max_bytes
     → ReadsAs limit settings text M
 unfolding canonical_log log_of_frames
-reads_again limit settings text M is are each left spelled fits =
+reads_again limit settings text M is are all each left spelled fits =
     let frames = all_frames limit M in
     let least = is.least in
     let most = is.most in
@@ -142,7 +147,7 @@ reads_again limit settings text M is are each left spelled fits =
     let limit_few = are.most in
     let back = canonical_lines_mean settings 0 frames are (frames_are_full limit M most (all_carried limit M each)) (omega arith) in
     let has_frames = AllByRecursion-weaker (IsSendable limit) (HasFrames limit) (λ x sendable. sendable.has_frames) M each in
-    let there = canonical_trace settings 1 0 0 frames are (omega arith) in
+    let there = canonical_trace settings 1 0 0 frames are all (omega arith) in
     let recording = canonical_frames_are_a_recording limit (id_of settings) 1 0 M most has_frames in
     let clean = canonical_frames_are_clean limit (id_of settings) 1 0 M most has_frames in
     let delivers : messages limit (trace settings (stamped_from settings 0 frames)) ≡ M =
@@ -151,7 +156,7 @@ reads_again limit settings text M is are each left spelled fits =
       meanings = stamped_from settings 0 frames;
       means = subst (λ x. LogMeans x (stamped_from settings 0 frames)) (sym spelled)
           (lines_are_log (canonical_lines settings 0 frames) (stamped_from settings 0 frames) back);
-      within = canonical_within limit settings 1 0 0 [] frames are clean.each;
+      within = canonical_within limit settings 1 0 0 [] frames are all clean.each;
       delivers = delivers;
       same = ap (under settings.rules) delivers ∙ left;
       clean = subst (IsClean limit) (sym there) clean;
@@ -293,26 +298,46 @@ still_settings settings are = record {
   unit = are.unit;
   apart = are.apart;
   functional = are.functional;
+  interface = are.interface;
   least = are.least;
   most = are.most;
   rules = record { most = omega arith; each = tt; apart = tt };
 }
 
--- and canonical logs are spelled the same
-same_id : (settings : Settings) (d : Dir) → id_of (without_rules settings) d ≡ id_of settings d
-same_id settings dir.Tester = refl
-same_id settings dir.Unit = refl
+-- and so on all interfaces
+opened_settings : (settings : Settings) → AreSettings settings → AreSettings (on_all_interfaces settings)
+opened_settings settings are = record {
+  tester = are.tester;
+  unit = are.unit;
+  apart = are.apart;
+  functional = are.functional;
+  interface = tt;
+  least = are.least;
+  most = are.most;
+  rules = are.rules;
+}
 
-same_lines : (settings : Settings) (n : ℕ) (frames : List (Dir × List ℕ)) → canonical_lines (without_rules settings) n frames ≡ canonical_lines settings n frames
+-- and canonical logs are spelled the same, where both sides have the same identifiers
+same_lines : (settings other : Settings) → ((d : Dir) → id_of other d ≡ id_of settings d) → (n : ℕ) (frames : List (Dir × List ℕ))
+    → canonical_lines other n frames ≡ canonical_lines settings n frames
 unfolding canonical_lines
-same_lines settings n [] = refl
-same_lines settings n (frame ∷ later) =
-    ap (λ id. canonical_text n id frame.1 ∷ canonical_lines (without_rules settings) (n + 1) later) (same_id settings frame.0)
-    ∙ ap (λ lines. canonical_text n (id_of settings frame.0) frame.1 ∷ lines) (same_lines settings (n + 1) later)
+same_lines settings other same n [] = refl
+same_lines settings other same n (frame ∷ later) =
+    ap (λ id. canonical_text n id frame.1 ∷ canonical_lines other (n + 1) later) (same frame.0)
+    ∙ ap (λ lines. canonical_text n (id_of settings frame.0) frame.1 ∷ lines) (same_lines settings other same (n + 1) later)
 
-same_spelling : (limit : ℕ) (settings : Settings) (M : List Message) → canonical_log limit (without_rules settings) M ≡ canonical_log limit settings M
+same_spelling : (limit : ℕ) (settings other : Settings) → ((d : Dir) → id_of other d ≡ id_of settings d) → (M : List Message)
+    → canonical_log limit other M ≡ canonical_log limit settings M
 unfolding canonical_log log_of_frames
-same_spelling limit settings M = ap ended_lines (same_lines settings 0 (all_frames limit M))
+same_spelling limit settings other same M = ap ended_lines (same_lines settings other same 0 (all_frames limit M))
+
+opened_id : (settings : Settings) (d : Dir) → id_of (on_all_interfaces settings) d ≡ id_of settings d
+opened_id settings dir.Tester = refl
+opened_id settings dir.Unit = refl
+
+plain_id : (settings : Settings) (d : Dir) → id_of (without_rules (on_all_interfaces settings)) d ≡ id_of settings d
+plain_id settings dir.Tester = refl
+plain_id settings dir.Unit = refl
 
 -- ---- the laws
 
@@ -363,20 +388,21 @@ canonical_is_canonical limit settings message_limit are log accepted is =
     let N = flattened (meaning M) in
     let sent = meaning_sendable limit M (log_sendable limit settings log meanings message_limit.least are is.1.means) in
     let left = meaning_left settings (messages limit (trace settings meanings)) are in
-    let again = reads_again limit settings text N message_limit are sent left is.2.spelled is.2.fits in
-    let own = own_canonical_log limit settings text M is.2.fits is.2.spelled left again in
-    let plain = without_rules settings in
-    let plainly = is.2.spelled ∙ sym (same_spelling limit settings N) in
-    let read = reads_again limit plain text N message_limit (still_settings settings are) sent (no_rules_keep_all N) plainly is.2.fits in
+    let opened = on_all_interfaces settings in
+    let opened_are = opened_settings settings are in
+    let spelled = is.2.spelled ∙ sym (same_spelling limit settings opened (opened_id settings) N) in
+    let again = reads_again limit opened text N message_limit opened_are refl sent left spelled is.2.fits in
+    let own = own_canonical_log limit opened text M is.2.fits spelled left again in
+    let plain = without_rules opened in
+    let plainly = is.2.spelled ∙ sym (same_spelling limit settings plain (plain_id settings) N) in
+    let read = reads_again limit plain text N message_limit (still_settings opened opened_are) refl sent (no_rules_keep_all N) plainly is.2.fits in
     record {
       accepted = own.accepted;
       outcome = own.outcome;
       own = own.own;
-      same_meaning = record {
-        items = meaning M;
-        in_one = record { meanings = meanings; means = is.1.means; found = refl };
-        in_other = record { meanings = again.meanings; means = again.means; found = sym (ap meaning again.same ∙ meaning_is_kept M) };
-      };
+      items = meaning M;
+      in_log = record { meanings = meanings; means = is.1.means; found = refl };
+      in_text = record { meanings = again.meanings; means = again.means; found = sym (ap meaning again.same ∙ meaning_is_kept M) };
       clean = own.clean;
       own_without_rules = own_canonical_log limit plain text M is.2.fits plainly (no_rules_keep_all N) read;
     }
@@ -397,11 +423,12 @@ pub same_meaning_same_text : SameMeaningSameText
 same_meaning_same_text limit settings message_limit are a b one other is too = (
   λ same. text_of_meaning limit settings a one same.items is same.in_one ∙ sym (text_of_meaning limit settings b other same.items too same.in_other),
   λ same.
-      let first = (canonical_is_canonical limit settings message_limit are a one is).same_meaning in
-      let second = (canonical_is_canonical limit settings message_limit are b other too).same_meaning in
-      let items = one_meaning limit settings other.text second.items first.items second.in_other
-      (subst (λ x. HasMeaning limit settings x first.items) same first.in_other) in
-      record { items = first.items; in_one = first.in_one; in_other = subst (HasMeaning limit settings b) items second.in_one },
+      let first = canonical_is_canonical limit settings message_limit are a one is in
+      let second = canonical_is_canonical limit settings message_limit are b other too in
+      let opened = on_all_interfaces settings in
+      let items = one_meaning limit opened other.text second.items first.items second.in_text
+      (subst (λ x. HasMeaning limit opened x first.items) same first.in_text) in
+      record { items = first.items; in_one = first.in_log; in_other = subst (HasMeaning limit settings b) items second.in_log },
 )
 
 pub recording_has_canonical_log : RecordingHasCanonicalLog

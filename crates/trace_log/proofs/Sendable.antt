@@ -13,7 +13,7 @@ use Rattle.isotp_receive.specs.Trace.{Entry}
 use Rattle.isotp_receive.specs.Verdict.{messages}
 use Rattle.isotp_receive.proofs.Promises.{messages_fit, messages_hold_bytes}
 use Rattle.isotp_segment.specs.Timed.{HasFrames}
-use Rattle.trace_log.specs.Settings.{Settings, channel_by}
+use Rattle.trace_log.specs.Settings.{Settings, channel_of_line}
 use Rattle.trace_log.specs.Trace.{trace_from}
 use Rattle.isotp_receive.specs.declared.channel.Channel.{Channel}
 
@@ -49,4 +49,4 @@ trace_of_bytes settings n (line ∷ lines) [] means = absurd means
 trace_of_bytes settings n (line ∷ lines) (None ∷ meanings) means = trace_of_bytes settings (n + 1) lines meanings means.1
 trace_of_bytes settings n (line ∷ lines) (Some stamped ∷ meanings) means =
     one_entry n stamped (trace_from settings (n + 1) meanings) (line_records_bytes line stamped means.0)
-    (trace_of_bytes settings (n + 1) lines meanings means.1) (channel_by settings stamped.frame.id)
+    (trace_of_bytes settings (n + 1) lines meanings means.1) (channel_of_line settings stamped)

@@ -5,7 +5,7 @@ use Rattle.std.proofs.Common.{append-nil, append_assoc, add-zero}
 use Rattle.std.specs.Prelude.{option_to_list}
 use Rattle.can_log.specs.declared.frame.Stamped.{Stamped}
 use Rattle.isotp_receive.specs.Trace.{Entry}
-use Rattle.trace_log.specs.Settings.{Settings, without_rules, channel_by}
+use Rattle.trace_log.specs.Settings.{Settings, without_rules, channel_by, channel_of_line}
 use Rattle.trace_log.specs.proving.Receiving.{entry_in}
 use Rattle.trace_log.specs.Trace.{entry_of, trace_from, trace}
 use Rattle.isotp_receive.specs.declared.channel.Channel.{Channel}
@@ -36,18 +36,18 @@ unfolding trace_from
 trace_more settings meanings stamped =
     trace_from-append settings 1 meanings (Some stamped ∷ []) ∙ ap (λ x. trace settings meanings ++ x) (append-nil (added settings meanings stamped))
 
-pub trace_foreign : (settings : Settings) (meanings : List (Option Stamped)) (stamped : Stamped) → None ≡ channel_by settings stamped.frame.id
+pub trace_foreign : (settings : Settings) (meanings : List (Option Stamped)) (stamped : Stamped) → None ≡ channel_of_line settings stamped
     → trace settings (meanings ++ Some stamped ∷ []) ≡ trace settings meanings
 trace_foreign settings meanings stamped none = trace_more settings meanings stamped ∙ rw (sym none) (append-nil (trace settings meanings))
 
 pub trace_directed : (settings : Settings) (meanings : List (Option Stamped)) (stamped : Stamped) (d : Channel)
-    → Some d ≡ channel_by settings stamped.frame.id
+    → Some d ≡ channel_of_line settings stamped
     → trace settings (meanings ++ Some stamped ∷ []) ≡ trace settings meanings ++ entry_in meanings stamped d ∷ []
 trace_directed settings meanings stamped d is = trace_more settings meanings stamped ∙ rw (sym is) refl
 
 -- rules change no trace
 same_entry : (settings : Settings) (n : ℕ) (stamped : Stamped) → entry_of (without_rules settings) n stamped ≡ entry_of settings n stamped
-unfolding channel_by
+unfolding channel_of_line channel_by
 same_entry settings n stamped = refl
 
 pub same_trace_from : (settings : Settings) (n : ℕ) (meanings : List (Option Stamped)) → trace_from (without_rules settings) n meanings ≡ trace_from settings n meanings

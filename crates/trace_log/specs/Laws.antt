@@ -22,7 +22,7 @@ use Rattle.uds_rules.specs.Under.{under}
 use Rattle.trace_log.specs.declared.fault.Fault.{Fault}
 use Rattle.trace_log.specs.declared.fault.Fault.TheVariants.{Read}
 use Rattle.trace_log.specs.declared.summary.Summary.{Summary}
-use Rattle.trace_log.specs.Settings.{Settings, AreSettings, without_rules, id_of, id_on, channel_by}
+use Rattle.trace_log.specs.Settings.{Settings, AreSettings, without_rules, on_all_interfaces, id_of, id_on, channel_by}
 use Rattle.trace_log.specs.MaskedItems.{only_mask, item_under}
 use Rattle.trace_log.specs.Trace.{trace}
 use Rattle.trace_log.specs.Messages.{messages_of_lines, meaning_of_lines, HasMeaning}
@@ -35,7 +35,7 @@ use Rattle.trace_log.specs.ReadAs.{Unreadable, IsReadAs}
 use Rattle.trace_log.specs.Answers.{ReadsWhile, WritesFront, WritesEagerly, Answers}
 use Rattle.direction.specs.declared.Dir.{Dir}
 
--- a frame has a channel exactly where its identifier is that of the channel
+-- on an interface that is read a frame has a channel exactly where its identifier is that of the channel
 abbrev pub ChannelIsById : Type 0
 ChannelIsById = (settings : Settings) → AreSettings settings → (id : Id) (channel : Channel)
     → (channel_by settings id ≡ Some channel) ↔ (id_on settings channel ≡ Some id)
@@ -109,15 +109,18 @@ pub record IsOwnCanonicalLog (limit : ℕ) (settings : Settings) (text : List �
   pub own : accepted.text ≡ text
   pub clean : IsCleanSummary accepted.summary
 
--- The text is a canonical log of the log: it is accepted, is its own canonical log, under the rules and without them,
--- has the meaning of the log, and nothing of it is dropped, ended, left unfinished or left out.
+-- The text is a canonical log of the log. Its lines name the interface can0, whichever was asked for; so it is read on all
+-- interfaces: then it is accepted, is its own canonical log, under the rules and without them, has the meaning of the log,
+-- and nothing of it is dropped, ended, left unfinished or left out.
 pub record IsCanonicalFor (limit : ℕ) (settings : Settings) (log text : List ℕ) : Type 0 where
   pub accepted : Accepted
-  pub outcome : IsOutcome limit settings text (Ok accepted)
+  pub outcome : IsOutcome limit (on_all_interfaces settings) text (Ok accepted)
   pub own : accepted.text ≡ text
-  pub same_meaning : HaveSameMeaning limit settings log text
+  pub items : List ItemValue
+  pub in_log : HasMeaning limit settings log items
+  pub in_text : HasMeaning limit (on_all_interfaces settings) text items
   pub clean : IsCleanSummary accepted.summary
-  pub own_without_rules : IsOwnCanonicalLog limit (without_rules settings) text
+  pub own_without_rules : IsOwnCanonicalLog limit (without_rules (on_all_interfaces settings)) text
 
 -- the canonical log of an accepted log is one
 abbrev pub CanonicalIsCanonical : Type 0

@@ -1,5 +1,7 @@
 pub mod Settings
 pub mod Trace
+pub mod Interfaces
+pub mod Stamps
 pub mod Messages
 pub mod MaskedItems
 pub mod CanonicalLog

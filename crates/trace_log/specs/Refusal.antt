@@ -8,7 +8,7 @@ use Rattle.can_log.specs.Log.{log_lines, LinesMean, ended_lines, IsRefusedIn}
 use Rattle.can_log.specs.declared.frame.Stamped.{Stamped}
 use Rattle.isotp_pdu.specs.Reading.{layout_of}
 use Rattle.isotp_receive.specs.Events.{oversize_in}
-use Rattle.trace_log.specs.Settings.{Settings, channel_by}
+use Rattle.trace_log.specs.Settings.{Settings, channel_of_line}
 use Rattle.isotp_receive.specs.Channels.{layout_on}
 use Rattle.isotp_receive.specs.declared.channel.Channel.{Channel}
 
@@ -32,7 +32,7 @@ oversize_by limit (Some channel) frame = oversize_in limit (layout_on channel (l
 -- the length above the limit that a line with this meaning announces
 unfoldable pub oversize : ℕ → Settings → Option Stamped → Option ℕ
 oversize limit settings None = None
-oversize limit settings (Some stamped) = oversize_by limit (channel_by settings stamped.frame.id) stamped.frame
+oversize limit settings (Some stamped) = oversize_by limit (channel_of_line settings stamped) stamped.frame
 
 -- it announces none
 abbrev pub announces_within : ℕ → Settings → Option Stamped → Bool

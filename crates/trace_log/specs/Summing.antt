@@ -16,7 +16,10 @@ use Rattle.trace_log.specs.declared.summary.Summary.{Summary}
 use Rattle.trace_log.specs.Settings.{Settings}
 use Rattle.trace_log.specs.Trace.{trace}
 use Rattle.trace_log.specs.Messages.{messages_of_lines}
-use Rattle.isotp_receive.specs.Channels.{dir_of}
+use Rattle.isotp_receive.specs.Channels.{dir_of, is_functional}
+use Rattle.isotp_receive.specs.declared.channel.Channel.{Channel}
+use Rattle.trace_log.specs.Interfaces.{interfaces_in}
+use Rattle.trace_log.specs.Stamps.{falling, first_falling_line, last_stamp}
 
 -- how many frames of the trace this side sent
 abbrev pub frames_of : Dir → List Entry → ℕ
@@ -46,6 +49,11 @@ counted_in limit T = record {
   left_out = 0;
   ends_in_line_feed = false;
   looks_exchanged = false;
+  functional_frames = count_by (λ (e : Entry). is_functional e.channel) T;
+  falling_frames = length (falling T);
+  first_falling_line = first_falling_line T;
+  last_stamp = last_stamp T;
+  interfaces = record { tester = None; unit = None; are_several = false };
 }
 
 -- the counts of a log whose lines mean this
@@ -58,6 +66,7 @@ summary_of limit settings log meanings = record (counted_in limit (trace setting
   left_out = left_out settings.rules (messages limit (trace settings meanings));
   ends_in_line_feed = ends_in_line_feed log;
   looks_exchanged = look_exchanged (messages_of_lines limit settings meanings);
+  interfaces = interfaces_in settings meanings;
 }
 
 -- the counts that are told, in this order, each behind its name
@@ -73,10 +82,10 @@ named_counts summary =
     ∷ []
 
 -- Whether a log with this summary is clean: it has a frame of the tester and one of the unit, nothing was dropped, ended or
--- left unfinished, and its last byte is a line feed.
+-- left unfinished, its last byte is a line feed, and the frames of a side stand on one interface.
 abbrev pub is_clean : Summary → Bool
 is_clean summary =
-    nat_lt 0 summary.tester_frames && (nat_lt 0 summary.unit_frames && ((summary.dropped == 0) && ((summary.ended == 0) && ((summary.unfinished == 0) && summary.ends_in_line_feed))))
+    nat_lt 0 summary.tester_frames && (nat_lt 0 summary.unit_frames && ((summary.dropped == 0) && ((summary.ended == 0) && ((summary.unfinished == 0) && (summary.ends_in_line_feed && not summary.interfaces.are_several)))))
 
 -- the log has bytes, the last of which is no line feed; one without bytes has no lines
 abbrev pub lacks_line_feed : Summary → Bool
@@ -100,11 +109,20 @@ is_message flowed = false
 abbrev pub more_if : Bool → ℕ → ℕ
 more_if b n = if b then min (n + 1) 18446744073709551615 else n
 
--- the counts of a trace with one more frame, which this side sent and which did this
-abbrev pub counted_more : Dir → EventValue → Summary → Summary
-counted_more d event counts = record counts {
-  tester_frames = more_if (same_direction dir.Tester d) counts.tester_frames;
-  unit_frames = more_if (same_direction dir.Unit d) counts.unit_frames;
+-- the line of the first frame that is stamped before the one above it, with one more frame
+abbrev pub first_line_noted : Option ℕ → Bool → ℕ → Option ℕ
+first_line_noted (Some first) falls line = Some first
+first_line_noted None falls line = if falls then Some line else None
+
+-- the counts of a trace with one more frame, which stands in this line with this stamp on this channel, and which did this
+abbrev pub counted_more : ℕ → ℕ → Channel → EventValue → Summary → Summary
+counted_more line micros channel event counts = record counts {
+  tester_frames = more_if (same_direction dir.Tester (dir_of channel)) counts.tester_frames;
+  unit_frames = more_if (same_direction dir.Unit (dir_of channel)) counts.unit_frames;
+  functional_frames = more_if (is_functional channel) counts.functional_frames;
+  falling_frames = more_if (nat_lt micros counts.last_stamp) counts.falling_frames;
+  first_falling_line = first_line_noted counts.first_falling_line (nat_lt micros counts.last_stamp) line;
+  last_stamp = micros;
   messages = more_if (is_message event.verdict) counts.messages;
   dropped = more_if (is_dropped event.verdict) counts.dropped;
   ended = more_if (is_some event.ended) counts.ended;

@@ -3,12 +3,12 @@ use Rattle.std.specs.Prelude.{ℕ, ◌+◌, List, [], ◌∷◌, ◌++◌, Optio
 use Rattle.std.specs.Option.{option_map}
 use Rattle.can_log.specs.declared.frame.Stamped.{Stamped}
 use Rattle.isotp_receive.specs.Trace.{Entry}
-use Rattle.trace_log.specs.Settings.{Settings, channel_by}
+use Rattle.trace_log.specs.Settings.{Settings, channel_of_line}
 
 -- the entry of the line with this number, which means a frame; none where the frame is foreign
 abbrev pub entry_of : Settings → ℕ → Stamped → Option Entry
 entry_of settings line stamped =
-    option_map (λ channel. record { line = line; micros = stamped.micros; channel = channel; frame = stamped.frame }) (channel_by settings stamped.frame.id)
+    option_map (λ channel. record { line = line; micros = stamped.micros; channel = channel; frame = stamped.frame }) (channel_of_line settings stamped)
 
 -- the entries of lines that mean this, the first of which has this number; a blank line has a number and no entry
 unfoldable pub trace_from : Settings → ℕ → List (Option Stamped) → List Entry

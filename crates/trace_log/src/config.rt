@@ -3,7 +3,7 @@ ghost use Rattle.std.specs.Prelude.{◌↔◌, IsTrue};
 ghost use Rattle.can_log.specs.Frame.{IsCanIdentifier};
 
 use crate::fault::ConfigFault;
-use can_log::{Id, Wanted};
+use can_log::{Id, Interface, Stamped, Wanted};
 use direction::Dir;
 use isotp_receive::Channel;
 use std::marker::Model;
@@ -18,12 +18,14 @@ const LARGEST_BASE_ID: u16 = 0x7FF;
 /// The largest extended identifier, of 29 bits.
 const LARGEST_EXTENDED_ID: u32 = 0x1FFF_FFFF;
 
-/// The identifiers of the tester and the unit, that on which the tester asks all units if there is one, the most bytes of
-/// a log and of its canonical log, and the rules that messages are under.
+/// The identifiers of the tester and the unit, that on which the tester asks all units if there is one, the interface
+/// whose frames are read if those of one alone are, the most bytes of a log and of its canonical log, and the rules that
+/// messages are under.
 #[derive(Debug, Drop)]
 pub struct Config {
     /// The tester's identifier, then the unit's, and as the third that of functional requests, if there is one.
     wanted: Wanted,
+    interface: Option<Interface>,
     max_bytes: u64,
     rules: Rules,
 }
@@ -33,14 +35,14 @@ impl Model for Config {
 
     ghost Value = { Settings };
 
-    ghost view = { λ c. record { tester = c.wanted.first; unit = c.wanted.second; functional = c.wanted.third; max_bytes = c.max_bytes; rules = c.rules } };
+    ghost view = { λ c. record { tester = c.wanted.first; unit = c.wanted.second; functional = c.wanted.third; interface = c.interface; max_bytes = c.max_bytes; rules = c.rules } };
 
-    ghost invariant = { λ c. AreSettings (record { tester = c.wanted.first; unit = c.wanted.second; functional = c.wanted.third; max_bytes = c.max_bytes; rules = c.rules }) };
+    ghost invariant = { λ c. AreSettings (record { tester = c.wanted.first; unit = c.wanted.second; functional = c.wanted.third; interface = c.interface; max_bytes = c.max_bytes; rules = c.rules }) };
 }
 
 impl Config {
     ghost use Rattle.std.specs.Prelude.{◌≡◌};
-    ghost use Rattle.trace_log.specs.Settings.{AreSettings, Configures, ConfiguresSession, Adds, without_rules, wanted_of, id_of, channel_by};
+    ghost use Rattle.trace_log.specs.Settings.{AreSettings, Configures, ConfiguresSession, Adds, Selects, without_rules, wanted_of, id_of, channel_by, channel_of_line};
 
     /// The configuration with these parts, and no rules. A base identifier is at most 7FF, an extended one at most
     /// 1FFFFFFF, and the two sides don't have the same one: equal numbers of different formats are different
@@ -59,6 +61,7 @@ impl Config {
         }
         Ok(Config {
             wanted: Wanted::new(tester, unit),
+            interface: None,
             max_bytes,
             rules: Rules::none(),
         })
@@ -97,6 +100,7 @@ impl Config {
     {
         Config {
             wanted: self.wanted,
+            interface: self.interface,
             max_bytes: self.max_bytes,
             rules: Rules::none(),
         }
@@ -129,6 +133,7 @@ impl Config {
         }
         Ok(Config {
             wanted: self.wanted.with_third(functional),
+            interface: self.interface,
             max_bytes: self.max_bytes,
             rules: self.rules,
         })
@@ -139,6 +144,29 @@ impl Config {
         ensures { result ≡ self.now.functional }
     {
         self.wanted.third()
+    }
+
+    /// This configuration for the frames of the interface of this name alone: those of others are foreign. A name has 1
+    /// to 15 visible characters.
+    pub fn with_interface(self, name: &[u8]) -> Result<Config, ConfigFault>
+        ensures { Selects self name.now result }
+    {
+        match Interface::new(name) {
+            Some(interface) => Ok(Config {
+                wanted: self.wanted,
+                interface: Some(interface),
+                max_bytes: self.max_bytes,
+                rules: self.rules,
+            }),
+            None => Err(ConfigFault::InterfaceName),
+        }
+    }
+
+    /// The interface whose frames are read, if those of one alone are.
+    pub fn interface(&self) -> Option<Interface>
+        ensures { result ≡ self.now.interface }
+    {
+        self.interface
     }
 
     /// The identifiers of the frames that are read: frames of others are foreign.
@@ -176,7 +204,20 @@ impl Config {
         }
     }
 
-    /// The channel of the frames with this identifier; none where they are foreign.
+    /// The channel of the frame that a line records; none where it is foreign, by its interface or its identifier.
+    #[tactic(auto, unfolding(crate::specs::Settings::channel_of_line))]
+    pub fn channel_of_line(&self, stamped: &Stamped) -> Option<Channel>
+        ensures { result ≡ channel_of_line self.now stamped.now }
+    {
+        if let Some(interface) = &self.interface {
+            if !interface.is_same(&stamped.interface) {
+                return None;
+            }
+        }
+        self.channel_by(stamped.frame.id())
+    }
+
+    /// The channel of the frames with this identifier, on an interface that is read; none where they are foreign.
     #[tactic(auto, unfolding(crate::specs::Settings::channel_by))]
     pub fn channel_by(&self, id: Id) -> Option<Channel>
         ensures { result ≡ channel_by self.now id }

@@ -64,6 +64,9 @@ pub enum ConfigFault {
     /// The identifier of functional requests is that of the tester or the unit.
     #[error("functional identifier is that of tester or unit")]
     SameFunctional,
+    /// The name of the interface is none that a line can have.
+    #[error("interface is not 1 to 15 printable characters")]
+    InterfaceName,
     /// The limit is 0, or above [`LARGEST_LIMIT`](crate::LARGEST_LIMIT).
     #[error("limit out of range")]
     LimitRange,

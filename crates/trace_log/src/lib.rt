@@ -1,6 +1,6 @@
 //! A recorded log: whose frames count, what their messages mean, and how it is read line by line.
 //!
-//! [`Config`] names the two identifiers, and how many bytes of a log are read. What a log then means, which log is
+//! [`Config`] names the two identifiers, the interface if frames of one alone are read, and how many bytes of a log are read. What a log then means, which log is
 //! accepted, and why every other one is refused, is defined in `specs`; [`laws`] says what holds of these
 //! definitions, the first of all that two accepted logs have one meaning exactly where their canonical logs are
 //! equal.
@@ -18,6 +18,7 @@
 mod config;
 mod fault;
 mod feed;
+mod interfaces;
 pub mod laws;
 mod lines;
 mod summary;
@@ -25,5 +26,6 @@ mod summary;
 pub use config::{Config, LARGEST_LIMIT};
 pub use fault::{CompareFault, ConfigFault, Fault};
 pub use feed::feed_lines;
+pub use interfaces::Interfaces;
 pub use lines::LineTaker;
 pub use summary::{Count, Summary};

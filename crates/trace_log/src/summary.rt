@@ -1,12 +1,12 @@
 //! What is counted in a log.
-ghost use Rattle.std.specs.Prelude.{◌≡◌, []};
+ghost use Rattle.std.specs.Prelude.{◌≡◌, [], true};
 ghost use Rattle.isotp_receive.specs.EventSeen.{seen_event};
 ghost use Rattle.isotp_receive.specs.declared.TheConstants.{MESSAGE_LIMIT};
-ghost use Rattle.trace_log.specs.Summing.{counted_in, counted_more, named_counts, seen_counts};
+ghost use Rattle.trace_log.specs.Summing.{counted_in, counted_more, first_line_noted, more_if, named_counts, seen_counts};
 ghost use Rattle.trace_log.specs.Summing as Spec;
 
-use direction::Dir;
-use isotp_receive::{Event, Verdict};
+use crate::interfaces::Interfaces;
+use isotp_receive::{Channel, Event, Verdict};
 
 /// The counts of a log that was read to its end.
 #[derive(Clone, Copy, Debug, PartialEq, Eq)]
@@ -35,6 +35,16 @@ pub struct Summary {
     pub ends_in_line_feed: bool,
     /// Whether tester and unit look exchanged: the tester sent responses and no request, and the unit what is no response.
     pub looks_exchanged: bool,
+    /// Those of `tester_frames` that went to all units.
+    pub functional_frames: u64,
+    /// Those of `frames` that are stamped before the last one of them above.
+    pub falling_frames: u64,
+    /// The line of the first of these.
+    pub first_falling_line: Option<u64>,
+    /// The stamp of the last one of `frames`, in microseconds; 0 where there is none.
+    pub last_stamp: u64,
+    /// The interfaces that `frames` stand on.
+    pub interfaces: Interfaces,
 }
 
 /// The name of a count, and its number.
@@ -59,18 +69,32 @@ impl Summary {
             left_out: 0,
             ends_in_line_feed: false,
             looks_exchanged: false,
+            functional_frames: 0,
+            falling_frames: 0,
+            first_falling_line: None,
+            last_stamp: 0,
+            interfaces: Interfaces::none(),
         }
     }
 
-    /// Counts what one more frame of a direction did, in `tester_frames` or `unit_frames`, `messages`, `dropped` and `ended`:
-    /// the others are known at the end. Each stays at the largest number.
-    pub fn count(&mut self, dir: Dir, event: Event<'_>)
-        ensures { self.new ≡ counted_more dir (seen_event event.entry) self.old }
+    /// Counts one more frame and what it did, in `tester_frames` and `functional_frames` or `unit_frames`, by its stamp, and in
+    /// `messages`, `dropped` and `ended`: the others are known at the end, but for `interfaces`. Each stays at the largest
+    /// number.
+    pub fn count(&mut self, line: u64, micros: u64, channel: Channel, event: Event<'_>)
+        ensures { self.new ≡ counted_more line micros channel (seen_event event.entry) self.old }
     {
-        match dir {
-            Dir::Tester => self.tester_frames = self.tester_frames.saturating_add(1),
-            Dir::Unit => self.unit_frames = self.unit_frames.saturating_add(1),
+        match channel {
+            Channel::Tester => self.tester_frames = self.tester_frames.saturating_add(1),
+            Channel::Unit => self.unit_frames = self.unit_frames.saturating_add(1),
+            Channel::Functional => {
+                self.tester_frames = self.tester_frames.saturating_add(1);
+                self.functional_frames = self.functional_frames.saturating_add(1);
+            }
         }
+        if micros < self.last_stamp {
+            self.note_fall(line);
+        }
+        self.last_stamp = micros;
         if event.ended.is_some() {
             self.ended = self.ended.saturating_add(1);
         }
@@ -78,6 +102,16 @@ impl Summary {
             Verdict::Message(_) => self.messages = self.messages.saturating_add(1),
             Verdict::Dropped(_) => self.dropped = self.dropped.saturating_add(1),
             Verdict::Began | Verdict::Stored | Verdict::Flow => {}
+        }
+    }
+
+    /// Notes a frame that is stamped before the one above it.
+    fn note_fall(&mut self, line: u64)
+        ensures { self.new ≡ record self.old { falling_frames = more_if true self.old.falling_frames; first_falling_line = first_line_noted self.old.first_falling_line true line } }
+    {
+        self.falling_frames = self.falling_frames.saturating_add(1);
+        if self.first_falling_line.is_none() {
+            self.first_falling_line = Some(line);
         }
     }
 
@@ -107,6 +141,7 @@ impl Summary {
             && self.ended == 0
             && self.unfinished == 0
             && self.ends_in_line_feed
+            && !self.interfaces.are_several
     }
 
     /// Whether the log has bytes, the last of which is no line feed.

@@ -8,6 +8,7 @@ use Rattle.isotp_receive.specs.Trace.{Entry}
 use Rattle.trace_log.specs.declared.summary.Summary.{Summary}
 use Rattle.trace_log.specs.Settings.{Settings}
 use Rattle.trace_log.specs.Summing.{counted_in}
+use Rattle.trace_log.specs.Interfaces.{interfaces_in}
 use Rattle.trace_log.specs.Trace.{trace}
 use Rattle.isotp_receive.specs.declared.channel.Channel.{Channel}
 
@@ -23,12 +24,16 @@ pub record IsReceiverStart {E : Type 0} (settings : Settings) (first : E) (confi
   pub nothing : IsStart pair lines counts
   pub taker_is : taker ≡ first
 
+-- what is counted line by line: the other counts are 0
+abbrev pub counted_of : ℕ → Settings → List (Option Stamped) → Summary
+counted_of limit settings meanings = record (counted_in limit (trace settings meanings)) { interfaces = interfaces_in settings meanings }
+
 -- those after lines that mean this
 pub record Receives (settings : Settings) (meanings : List (Option Stamped)) (pair : PairValue) (lines : ℕ) (counts : Summary) : Type 0 where
   pub pair_is : pair.receptions ≡ receptions_after MESSAGE_LIMIT (trace settings meanings)
   pub keeps : KeepsWithin MESSAGE_LIMIT (trace settings meanings) pair
   pub lines_are : lines ≡ length meanings
-  pub counted : counts ≡ counted_in MESSAGE_LIMIT (trace settings meanings)
+  pub counted : counts ≡ counted_of MESSAGE_LIMIT settings meanings
 
 -- the entry of a frame on a channel, in this line
 abbrev pub entry_at : ℕ → Stamped → Channel → Entry
