@@ -5,6 +5,7 @@ use Rattle.isotp_receive.specs.Capacities.{PairValue, KeepsWithin}
 use Rattle.isotp_receive.specs.declared.TheConstants.{MESSAGE_LIMIT}
 use Rattle.isotp_receive.proofs.Promises.{new_pair_keeps_within}
 use Rattle.trace_io.specs.declared.device.Target.{Ghosts as TargetGhosts}
+use Rattle.trace_log.specs.Interfaces.{interfaces_in}
 use Rattle.trace_log.specs.Feeding.{FeedsLog, FeedsSome}
 use Rattle.trace_log.specs.Refusal.{EachPasses}
 use Rattle.trace_log.specs.Settings.{Settings}
@@ -46,7 +47,7 @@ module _ {A M W : Type 0} (machine : MachineGhosts M A) (target : TargetGhosts W
 
   -- it has then taken no line
   pub takes_no_line : (start : RunState M W) → HasTaken machine target start [] start
-  unfolding trace_from
+  unfolding trace_from interfaces_in
   takes_no_line start settings machine_start begun = (
     record {
       config = begun.config;

@@ -129,9 +129,12 @@ impl<'a, M: Machine, W: Target> LineTaker for Receiver<'a, M, W> {
         let Some(stamped) = what else {
             return Ok(());
         };
-        let Some(channel) = self.config.channel_by(stamped.frame.id()) else {
+        let Some(channel) = self.config.channel_of_line(stamped) else {
             return Ok(());
         };
+        self.counts
+            .interfaces
+            .note(channel.dir(), &stamped.interface);
         self.receive(device, line, channel, stamped)
     }
 }
@@ -167,7 +170,7 @@ impl<'a, M: Machine, W: Target> Receiver<'a, M, W> {
             self.old.pair self.new.pair) }
         ensures counts { OnOk result ((T : List Entry) → self.old.pair.receptions ≡ receptions_after MESSAGE_LIMIT T
             → self.new.counts
-            ≡ counted_more (dir_of channel) (verdict MESSAGE_LIMIT T (entry_at line stamped.now channel)) self.old.counts) }
+            ≡ counted_more line stamped.now.micros channel (verdict MESSAGE_LIMIT T (entry_at line stamped.now channel)) self.old.counts) }
         ensures told { (T : List Entry) → self.old.pair.receptions ≡ receptions_after MESSAGE_LIMIT T
             → length T < 2 ^ 62 → TellsFrame M.Machine W.Target self.old.config.now.rules T (entry_at line stamped.now channel)
             self.old.telling target.old result self.new.telling target.new }
@@ -209,7 +212,7 @@ fn hand_on<M: Machine, W: Target>(
     frame: FrameEvent<'_>,
 ) -> Result<(), Fault>
     ensures fault { IfErr result IsOfTaker }
-    ensures counts { counts.new ≡ counted_more (dir_of frame.entry.channel) (seen_event frame.entry.event) counts.old }
+    ensures counts { counts.new ≡ counted_more frame.entry.line frame.entry.micros frame.entry.channel (seen_event frame.entry.event) counts.old }
     ensures told { TellsEvent M.Machine W.Target config.now.rules frame.entry
         telling.old target.old result telling.new target.new }
 {

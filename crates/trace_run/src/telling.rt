@@ -132,11 +132,11 @@ pub(crate) fn count_and_tell<M: Machine, W: Target>(
     frame: FrameEvent<'_>,
 ) -> Result<(), Fault>
     ensures fault { IfErr result IsOfTaker }
-    ensures counts { counts.new ≡ counted_more (dir_of frame.entry.channel) (seen_event frame.entry.event) counts.old }
+    ensures counts { counts.new ≡ counted_more frame.entry.line frame.entry.micros frame.entry.channel (seen_event frame.entry.event) counts.old }
     ensures told { TellsEvent M.Machine W.Target config.now.rules frame.entry
         telling.old target.old result telling.new target.new }
 {
-    counts.count(frame.channel.dir(), frame.event);
+    counts.count(frame.line, frame.micros, frame.channel, frame.event);
     telling.take(config, target, frame)
 }
 

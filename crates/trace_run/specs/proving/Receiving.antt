@@ -4,7 +4,7 @@ use Rattle.can_log.specs.declared.frame.Stamped.{Stamped}
 use Rattle.isotp_receive.specs.declared.channel.Channel.{Channel}
 use Rattle.trace_io.specs.declared.device.Target.{Ghosts as TargetGhosts}
 use Rattle.trace_log.specs.Feeding.{Took, Stopped}
-use Rattle.trace_log.specs.Settings.{Settings, channel_by}
+use Rattle.trace_log.specs.Settings.{Settings, channel_of_line}
 use Rattle.trace_log.specs.Trace.{trace}
 use Rattle.trace_log.specs.declared.fault.Fault.{Fault}
 use Rattle.trace_log.specs.proving.Receiving.{Receives, IsStart, entry_in}
@@ -51,7 +51,7 @@ module _ {A M W : Type 0} (machine : MachineGhosts M A) (target : TargetGhosts W
     pub stamped : Stamped
     pub channel : Channel
     pub means : what ≡ Some stamped
-    pub found : Some channel ≡ channel_by settings stamped.frame.id
+    pub found : Some channel ≡ channel_of_line settings stamped
     pub stopped : HasStopped machine target start (trace settings meanings) (entry_in meanings stamped channel) why
         now.receiver.telling now.target
 
