@@ -16,7 +16,7 @@ use Rattle.trace_log.proofs.Promises.{messages_more, trace_next, trace_same_blan
 use Rattle.uds_rules.specs.Rule.{RuleValue}
 use Rattle.uds_rules.specs.Under.{under}
 use Rattle.trace_log.specs.Messages.{HasMeaning, messages_under}
-use Rattle.trace_log.specs.Settings.{Settings, channel_by}
+use Rattle.trace_log.specs.Settings.{Settings, channel_of_line}
 use Rattle.trace_log.specs.Trace.{trace, trace_from}
 use Rattle.trace_log.specs.proving.Receiving.{entry_in}
 use Rattle.trace_run.proofs.Promises.{CompletesJudged}
@@ -42,7 +42,7 @@ completes_such IsSuch rules T e judged completes such = (
 
 module _ (limit : ℕ) (settings : Settings) where
   -- the messages are the same behind a frame that tells none
-  no_message_more : (past : List (Option Stamped)) (stamped : Stamped) (c : Channel) → Some c ≡ channel_by settings stamped.frame.id
+  no_message_more : (past : List (Option Stamped)) (stamped : Stamped) (c : Channel) → Some c ≡ channel_of_line settings stamped
       → told_message (dir_of c) (verdict limit (trace settings past) (entry_in past stamped c)).verdict ≡ []
       → messages limit (trace settings (past ++ Some stamped ∷ [])) ≡ messages limit (trace settings past)
   no_message_more past stamped c is none =
@@ -57,7 +57,7 @@ module _ (limit : ℕ) (settings : Settings) where
     -- the next frame completes a message, or the messages are the same behind it
     completed_or_on : (before later : List (List ℕ)) (line : List ℕ) (past : List (Option Stamped)) (stamped : Stamped)
         (c : Channel) → log_lines log ≡ (before ++ line ∷ []) ++ later
-        → LinesMean (before ++ line ∷ []) (past ++ Some stamped ∷ []) → Some c ≡ channel_by settings stamped.frame.id
+        → LinesMean (before ++ line ∷ []) (past ++ Some stamped ∷ []) → Some c ≡ channel_of_line settings stamped
         → (messages limit (trace settings (past ++ Some stamped ∷ [])) ≡ messages limit (trace settings past) → Needs) → Needs
     completed_or_on before later line past stamped c parts means is on =
         by (verdict limit (trace settings past) (entry_in past stamped c)).verdict refl
@@ -82,9 +82,9 @@ module _ (limit : ℕ) (settings : Settings) where
         → LinesMean (before ++ line ∷ []) (past ++ what ∷ [])
         → (messages limit (trace settings (past ++ what ∷ [])) ≡ messages limit (trace settings past) → Needs) → Needs
     line_or_on before later line past None parts means on = on (ap (messages limit) (trace_same_blank settings past None refl))
-    line_or_on before later line past (Some stamped) parts means on = by (channel_by settings stamped.frame.id) refl
+    line_or_on before later line past (Some stamped) parts means on = by (channel_of_line settings stamped) refl
       where
-        by : (c : Option Channel) → c ≡ channel_by settings stamped.frame.id → Needs
+        by : (c : Option Channel) → c ≡ channel_of_line settings stamped → Needs
         by None is = on (ap (messages limit) (trace_same_foreign settings past (Some stamped) stamped refl is))
         by (Some c) is = completed_or_on before later line past stamped c parts means is on
 

@@ -1,8 +1,9 @@
 -- What was heard of the lines of a log, and what is answered of it.
-use Rattle.std.proofs.Common.{◌≡◌, ◌≢◌, ℕ, ◌+◌, ◌^◌, ◌<◌, ◌≤◌, Bool, List, [], ◌∷◌, ◌++◌, length, take, drop, arith}
-use Rattle.std.proofs.Common.{refl, ap, sym, subst, ◌∙◌, Option, Some, None, Result, Ok, Err, inl, inr, append-nil}
+use Rattle.std.proofs.Common.{◌≡◌, ◌≢◌, ℕ, ◌+◌, ◌^◌, ◌<◌, ◌≤◌, Bool, true, false, cond, List, [], ◌∷◌, ◌++◌, length, take, drop, arith}
+use Rattle.std.proofs.Common.{refl, ap, sym, subst, ◌∙◌, Option, Some, None, Result, Ok, Err, inl, inr, append-nil, append_assoc}
 use Rattle.std.proofs.Common.{length-append, length-take}
 use Rattle.std.proofs.lemmas.List.{take-append-drop}
+use Rattle.std.specs.List.{flat_map}
 use Rattle.std.specs.Prelude.{IfOk, IfErr}
 use Rattle.can_log.specs.Frame.{FrameValue}
 use Rattle.can_log.specs.Log.{LogMeans}
@@ -13,68 +14,80 @@ use Rattle.trace_canon.specs.declared.hearer.FoundCreditLines.{FoundCreditLines}
 use Rattle.trace_canon.specs.declared.hearer.Hearer.{Hearer}
 use Rattle.trace_canon.specs.Finding.{GivesFound, IsFoundOf}
 use Rattle.trace_canon.specs.MemoryNeeded.{NeedsMemoryToFind}
-use Rattle.trace_canon.specs.Heard.{frames_in}
-use Rattle.trace_log.specs.Settings.{Settings}
+use Rattle.trace_canon.specs.Heard.{frame_on, frames_on}
+use Rattle.trace_log.specs.Settings.{Settings, is_read_on}
 use Rattle.trace_log.specs.Feeding.{FeedsLog, FeedsSome, Took, Stopped, StopsWithin}
 use Rattle.trace_canon.specs.proving.Hearing.{HasHeard}
 use Rattle.trace_run.specs.Stopping.{CantBeRead}
 use Rattle.uds_find.specs.Asking.{HasKept, NeedsMemory}
 use Rattle.uds_find.specs.Credit.{HasCredit}
-use Rattle.uds_find.specs.Finding.{FinderValue, StandsAfter}
+use Rattle.uds_find.specs.Finding.{StandsAfter}
 use Rattle.uds_find.proofs.Promises.{asking_is_kept, credit_has_asking, need_has_kept}
 use Rattle.trace_log.proofs.Promises.{all_begin, begins_with_lines, bad_counts, no_place_counts, bad_in_front, bad_at_end}
 
 -- ---- one line more
 
-frames_append : (meanings more : List (Option Stamped)) → frames_in (meanings ++ more) ≡ frames_in meanings ++ frames_in more
-unfolding frames_in
-frames_append [] more = refl
-frames_append (None ∷ meanings) more = frames_append meanings more
-frames_append (Some stamped ∷ meanings) more = ap (λ l. stamped.frame ∷ l) (frames_append meanings more)
+few_on : (interface : Option (List ℕ)) (what : Option Stamped) → length (frame_on interface what) ≤ 1
+few_on interface None = omega arith
+few_on interface (Some stamped) = by (is_read_on interface stamped.interface) where
+  by : (is_read : Bool) → length (cond is_read (stamped.frame ∷ []) []) ≤ 1
+  by true = omega arith
+  by false = omega arith
 
-few_frames : (meanings : List (Option Stamped)) → length (frames_in meanings) ≤ length meanings
-unfolding frames_in
-few_frames [] = omega arith
-few_frames (None ∷ meanings) = omega (arith, few_frames meanings)
-few_frames (Some stamped ∷ meanings) = omega (arith, few_frames meanings)
+few_frames : (interface : Option (List ℕ)) (meanings : List (Option Stamped)) → length (frames_on interface meanings) ≤ length meanings
+unfolding frames_on
+few_frames interface [] = omega arith
+few_frames interface (what ∷ meanings) =
+    let one = few_on interface what in
+    let rest = few_frames interface meanings in
+    let both = length-append (frame_on interface what) (flat_map (frame_on interface) meanings) in
+    omega arith
 
-module _ (meanings : List (Option Stamped)) (what : Option Stamped) where
-  frames_blank : what ≡ None → frames_in (meanings ++ what ∷ []) ≡ frames_in meanings
-  unfolding frames_in
-  frames_blank is = ap (λ w. frames_in (meanings ++ w ∷ [])) is ∙ frames_append meanings (None ∷ []) ∙ append-nil (frames_in meanings)
+frames_more : (interface : Option (List ℕ)) (meanings : List (Option Stamped)) (what : Option Stamped)
+    → frames_on interface (meanings ++ what ∷ []) ≡ frames_on interface meanings ++ frame_on interface what
+unfolding frames_on
+frames_more interface [] what = append-nil (frame_on interface what)
+frames_more interface (first ∷ meanings) what =
+    ap (λ more. frame_on interface first ++ more) (frames_more interface meanings what)
+    ∙ sym (append_assoc (frame_on interface first) (flat_map (frame_on interface) meanings) (frame_on interface what))
 
-  frames_more : (stamped : Stamped) → what ≡ Some stamped → frames_in (meanings ++ what ∷ []) ≡ frames_in meanings ++ stamped.frame ∷ []
-  unfolding frames_in
-  frames_more stamped is = ap (λ w. frames_in (meanings ++ w ∷ [])) is ∙ frames_append meanings (Some stamped ∷ [])
+module _ (interface : Option (List ℕ)) (meanings : List (Option Stamped)) (what : Option Stamped) where
+  one_line_more : (line : ℕ) → line ≡ length meanings + 1 → line ≡ length (meanings ++ what ∷ [])
+  one_line_more line number = omega (arith, number, length-append meanings (what ∷ []))
 
-  counted_more : (line : ℕ) → line ≡ length meanings + 1 → line ≡ length (meanings ++ what ∷ [])
-  counted_more line number = omega (arith, number, length-append meanings (what ∷ []))
-
-  -- a blank one
-  pub heard_blank : (finder : FinderValue) (lines line : ℕ) → what ≡ None → line ≡ length meanings + 1 → HasHeard meanings finder lines
-      → HasHeard (meanings ++ what ∷ []) finder line
-  heard_blank finder lines line is number heard =
-      record { stands = subst (λ frames. StandsAfter frames finder) (sym (frames_blank is)) heard.stands; counted = counted_more line number }
+  -- one of which nothing is heard
+  pub heard_nothing : (old new : Hearer) → frame_on interface what ≡ [] → new.interface ≡ old.interface → new.finder ≡ old.finder
+      → new.lines ≡ length meanings + 1 → HasHeard interface meanings old → HasHeard interface (meanings ++ what ∷ []) new
+  heard_nothing old new none on same number heard = record {
+    on = on ∙ heard.on;
+    stands =
+        subst (λ frames. StandsAfter frames new.finder)
+        (sym (frames_more interface meanings what ∙ ap (λ more. frames_on interface meanings ++ more) none ∙ append-nil (frames_on interface meanings)))
+        (subst (StandsAfter (frames_on interface meanings)) (sym same) heard.stands);
+    counted = one_line_more new.lines number;
+  }
 
   -- one with a frame
-  pub heard_frame : (stamped : Stamped) (old new : FinderValue) (lines line : ℕ) → what ≡ Some stamped
-      → line ≡ length meanings + 1 → length meanings < 2 ^ 62
-      → ((frames : List FrameValue) → length frames < 2 ^ 62 → StandsAfter frames old → StandsAfter (frames ++ stamped.frame ∷ []) new)
-      → HasHeard meanings old lines → HasHeard (meanings ++ what ∷ []) new line
-  heard_frame stamped old new lines line is number few takes heard = record {
+  pub heard_frame : (frame : FrameValue) (old new : Hearer) → frame_on interface what ≡ frame ∷ [] → new.interface ≡ old.interface
+      → new.lines ≡ length meanings + 1 → length meanings < 2 ^ 62
+      → ((frames : List FrameValue) → length frames < 2 ^ 62 → StandsAfter frames old.finder → StandsAfter (frames ++ frame ∷ []) new.finder)
+      → HasHeard interface meanings old → HasHeard interface (meanings ++ what ∷ []) new
+  heard_frame frame old new is on number few takes heard = record {
+    on = on ∙ heard.on;
     stands =
-        subst (λ frames. StandsAfter frames new) (sym (frames_more stamped is))
-        (takes (frames_in meanings) (omega (arith, few, few_frames meanings)) heard.stands);
-    counted = counted_more line number;
+        subst (λ frames. StandsAfter frames new.finder)
+        (sym (frames_more interface meanings what ∙ ap (λ more. frames_on interface meanings ++ more) is))
+        (takes (frames_on interface meanings) (omega (arith, few, few_frames interface meanings)) heard.stands);
+    counted = one_line_more new.lines number;
   }
 
   -- one that needs memory
-  pub heard_first : (stamped : Stamped) (old : FinderValue) (lines : ℕ) → what ≡ Some stamped
-      → ((frames : List FrameValue) → StandsAfter frames old → NeedsMemory frames stamped.frame)
-      → HasHeard meanings old lines → HasKept (frames_in (meanings ++ what ∷ []))
-  heard_first stamped old lines is needs heard =
-      subst HasKept (sym (frames_more stamped is))
-      (need_has_kept (frames_in meanings) stamped.frame (needs (frames_in meanings) heard.stands))
+  pub heard_first : (frame : FrameValue) (old : Hearer) → frame_on interface what ≡ frame ∷ []
+      → ((frames : List FrameValue) → StandsAfter frames old.finder → NeedsMemory frames frame)
+      → HasHeard interface meanings old → HasKept (frames_on interface (meanings ++ what ∷ []))
+  heard_first frame old is needs heard =
+      subst HasKept (sym (frames_more interface meanings what ∙ ap (λ more. frames_on interface meanings ++ more) is))
+      (need_has_kept (frames_on interface meanings) frame (needs (frames_on interface meanings) heard.stands))
 
 -- ---- a whole log
 
@@ -83,15 +96,16 @@ abbrev Heard : Type 0
 Heard = Hearer × Unit {0}
 
 abbrev TookHeard : Took Heard
-TookHeard s meanings t = HasHeard [] s.0.finder s.0.lines → HasHeard meanings t.0.finder t.0.lines
+TookHeard s meanings t = (interface : Option (List ℕ)) → HasHeard interface [] s.0 → HasHeard interface meanings t.0
 
 abbrev BrokeHeard : Took Heard
 BrokeHeard s meanings t = ⊥
 
 abbrev StoppedHeard : Stopped Heard
-StoppedHeard s meanings what why t = HasHeard [] s.0.finder s.0.lines → (why ≡ fault.Memory) × HasKept (frames_in (meanings ++ what ∷ []))
+StoppedHeard s meanings what why t =
+    (interface : Option (List ℕ)) → HasHeard interface [] s.0 → (why ≡ fault.Memory) × HasKept (frames_on interface (meanings ++ what ∷ []))
 
-module _ (settings : Settings) (log : List ℕ) (given : ℕ) (start now : Heard) (begun : HasHeard [] start.0.finder start.0.lines) where
+module _ (settings : Settings) (log : List ℕ) (given : ℕ) (start now : Heard) (begun : HasHeard settings.interface [] start.0) where
   -- why it was not read to its end
   pub heard_fault : (most : ℕ) (why : Fault) → most ≡ settings.max_bytes
       → FeedsLog TookHeard TookHeard BrokeHeard StoppedHeard start most log given (Err why) now → CantBeRead settings log why
@@ -104,7 +118,7 @@ module _ (settings : Settings) (log : List ℕ) (given : ℕ) (start now : Heard
         (omega (arith, is, long, length-take most log)) (omega (arith, is, long)),
     omega (arith, is, long),
   )
-  heard_fault most (fault.Oversize line announced) is (meanings, what, stops, place) = absurd (cc ((stops begun).0))
+  heard_fault most (fault.Oversize line announced) is (meanings, what, stops, place) = absurd (cc ((stops settings.interface begun).0))
   heard_fault most fault.OutputLimit is never = absurd never
   heard_fault most fault.Memory is stops = tt
   heard_fault most fault.Read is taken = tt
@@ -113,14 +127,14 @@ module _ (settings : Settings) (log : List ℕ) (given : ℕ) (start now : Heard
   -- where memory was refused
   pub heard_need : (most : ℕ) (why : Fault) → most ≡ settings.max_bytes
       → FeedsLog TookHeard TookHeard BrokeHeard StoppedHeard start most log given (Err why) now → why ≡ fault.Memory
-      → NeedsMemoryToFind log
+      → NeedsMemoryToFind settings.interface log
   heard_need most why is feeds refused =
       by (subst (λ f. FeedsLog TookHeard TookHeard BrokeHeard StoppedHeard start most log given (Err f) now) refused feeds)
     where
-      by : FeedsLog TookHeard TookHeard BrokeHeard StoppedHeard start most log given (Err fault.Memory) now → NeedsMemoryToFind log
+      by : FeedsLog TookHeard TookHeard BrokeHeard StoppedHeard start most log given (Err fault.Memory) now → NeedsMemoryToFind settings.interface log
       by (meanings, what, stops, place) =
           let within = subst (λ k. StopsWithin k log given meanings what) is place in
-          (meanings ++ what ∷ [], begins_with_lines settings log given meanings what within, (stops begun).1)
+          (meanings ++ what ∷ [], begins_with_lines settings log given meanings what within, (stops settings.interface begun).1)
 
 -- nothing is written, so writing does not fail
 pub heard_unwritten : (why : Fault) (start now : Heard)
@@ -135,22 +149,22 @@ heard_unwritten why start now feeds is = by (subst (λ f. FeedsSome TookHeard To
 module _ (settings : Settings) (log : List ℕ) (meanings : List (Option Stamped)) (short : length log ≤ settings.max_bytes)
     (means : LogMeans log meanings) where
   pub heard_end : (result : Result FoundCreditLines Fault)
-      → IfOk result (λ found. IsFoundOf log meanings found.credit_lines.items found.summary)
+      → IfOk result (λ found. IsFoundOf settings.interface log meanings found.credit_lines.items found.summary)
       → IfErr result (λ why. why ≡ fault.Memory)
       → GivesFound settings log result
   heard_end (Ok found) is none = (meanings, (short, means), is)
   heard_end (Err why) none is = subst (CantBeRead settings log) (sym is) tt
 
-  pub heard_end_need : (result : Result FoundCreditLines Fault) → IfErr result (λ why. HasCredit (frames_in meanings))
-      → result ≡ Err fault.Memory → NeedsMemoryToFind log
+  pub heard_end_need : (result : Result FoundCreditLines Fault) → IfErr result (λ why. HasCredit (frames_on settings.interface meanings))
+      → result ≡ Err fault.Memory → NeedsMemoryToFind settings.interface log
   heard_end_need (Ok found) needs is = absurd (cc is)
   heard_end_need (Err why) needs is = (
     meanings,
     all_begin log meanings means,
-    asking_is_kept (frames_in meanings) (credit_has_asking (frames_in meanings) needs),
+    asking_is_kept (frames_on settings.interface meanings) (credit_has_asking (frames_on settings.interface meanings) needs),
   )
 
 -- before the first line
-pub heard_none : (finder : FinderValue) (lines : ℕ) → StandsAfter [] finder → lines ≡ 0 → HasHeard [] finder lines
-unfolding frames_in
-heard_none finder lines stands none = record { stands = stands; counted = none }
+pub heard_none : (hearer : Hearer) → StandsAfter [] hearer.finder → hearer.lines ≡ 0 → HasHeard hearer.interface [] hearer
+unfolding frames_on
+heard_none hearer stands none = record { on = refl; stands = stands; counted = none }

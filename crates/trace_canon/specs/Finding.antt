@@ -1,5 +1,5 @@
 -- What is answered of the credit lines of a log, and what `find` writes of them. No length that is announced refuses a
--- log, and of the settings `max_bytes` alone counts.
+-- log, and of the settings `max_bytes` and `interface` alone count.
 use Rattle.std.specs.Prelude.{◌≡◌, ℕ, List, [], length, Option, Result, Ok, Err}
 use Rattle.can_log.specs.declared.frame.Stamped.{Stamped}
 use Rattle.isotp_receive.specs.declared.TheConstants.{MESSAGE_LIMIT}
@@ -9,7 +9,7 @@ use Rattle.trace_canon.specs.declared.credit_lines.CreditStyle.{CreditStyle}
 use Rattle.trace_log.specs.declared.summary.Summary.{Summary}
 use Rattle.trace_log.specs.ReadAs.{IsReadAs}
 use Rattle.trace_canon.specs.CreditLines.{credit_lines_text}
-use Rattle.trace_canon.specs.Heard.{frames_in}
+use Rattle.trace_canon.specs.Heard.{frames_on}
 use Rattle.trace_canon.specs.WaysOfReading.{reading_to_find}
 use Rattle.trace_canon.specs.WrittenAtEnd.{RanAtEnd, TextOfLog, WritesAtEnd}
 use Rattle.trace_io.specs.declared.device.Source.{Ghosts as SourceGhosts}
@@ -28,13 +28,14 @@ summary_of_lines log meanings = record (counted_in MESSAGE_LIMIT []) {
 }
 
 -- these are the credit lines of a log whose lines mean this, and its counts
-abbrev pub IsFoundOf : List ℕ → List (Option Stamped) → List CreditLine → Summary → Type 0
-IsFoundOf log meanings lines summary = AreCreditLines (frames_in meanings) lines × (summary ≡ summary_of_lines log meanings)
+abbrev pub IsFoundOf : Option (List ℕ) → List ℕ → List (Option Stamped) → List CreditLine → Summary → Type 0
+IsFoundOf interface log meanings lines summary =
+    AreCreditLines (frames_on interface meanings) lines × (summary ≡ summary_of_lines log meanings)
 
 -- the log can be read, and these are its credit lines and its counts
 abbrev pub IsFoundIn : Settings → List ℕ → List CreditLine → Summary → Type 0
 IsFoundIn settings log lines summary =
-    (meanings : List (Option Stamped)) × IsReadAs settings log (Ok meanings) × IsFoundOf log meanings lines summary
+    (meanings : List (Option Stamped)) × IsReadAs settings log (Ok meanings) × IsFoundOf settings.interface log meanings lines summary
 
 -- the credit lines of a log and its counts, or why it can't be read
 abbrev pub GivesFound : Settings → List ℕ → Result FoundCreditLines Fault → Type 0

@@ -103,7 +103,8 @@ NeedsMemoryForExplanation limit settings log = ⊤
 
 -- Memory is needed to gather the credit lines: to read the log, or since it has one, whatever the limit of a message.
 abbrev pub NeedsMemoryForCreditLines : Notation → ℕ → Settings → List ℕ → Type 0
-NeedsMemoryForCreditLines notation limit settings log = NeedsMemoryToFind log ⊎ HasBytes (AreCreditLinesWith notation settings log)
+NeedsMemoryForCreditLines notation limit settings log =
+    NeedsMemoryToFind settings.interface log ⊎ HasBytes (AreCreditLinesWith notation settings log)
 
 -- the meaning of the log, or why it has none
 abbrev pub MeansInMemory : ℕ → Settings → List ℕ → Result (List ItemValue) Fault → Type 0

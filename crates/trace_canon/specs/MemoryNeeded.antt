@@ -12,7 +12,7 @@ use Rattle.uds_rules.specs.Rule.{RuleValue, made_of}
 use Rattle.trace_log.specs.Messages.{messages_under}
 use Rattle.trace_log.specs.Settings.{Settings}
 use Rattle.trace_log.specs.Needing.{BeginsWithLines, HasFrame, IsKeptOrMasked}
-use Rattle.trace_canon.specs.Heard.{frames_in}
+use Rattle.trace_canon.specs.Heard.{frames_on}
 use Rattle.trace_canon.specs.FirstFrames.{CompletesMessage}
 use Rattle.uds_find.specs.Asking.{HasKept}
 use Rattle.trace_text.specs.declared.notation.Notation.{Notation}
@@ -51,6 +51,8 @@ abbrev pub NeedsMemoryToCollect : ℕ → Settings → List ℕ → Type 0
 NeedsMemoryToCollect limit settings =
     HasFrame (λ T e. IsKeptOrMasked limit settings.rules T e ⊎ CompletesMessage limit T e) settings
 
--- the first lines of the log have a frame whose identifier is kept: one that asks, or a functional one
-abbrev pub NeedsMemoryToFind : List ℕ → Type 0
-NeedsMemoryToFind log = (meanings : List (Option Stamped)) × BeginsWithLines log meanings × HasKept (frames_in meanings)
+-- the first lines of the log have a frame on an interface that is read whose identifier is kept: one that asks, or a
+-- functional one
+abbrev pub NeedsMemoryToFind : Option (List ℕ) → List ℕ → Type 0
+NeedsMemoryToFind interface log =
+    (meanings : List (Option Stamped)) × BeginsWithLines log meanings × HasKept (frames_on interface meanings)

@@ -39,7 +39,7 @@ reading_to_collect limit settings = record {
 -- how a log is read for its credit lines: memory is needed where a frame asks
 abbrev pub reading_to_find : Settings → WayOfReading
 reading_to_find settings =
-    record { unrefused = HasNoBadPlaceWithin; needs = NeedsMemoryToFind; max_bytes = settings.max_bytes }
+    record { unrefused = HasNoBadPlaceWithin; needs = NeedsMemoryToFind settings.interface; max_bytes = settings.max_bytes }
 
 -- What every run does that reads a source in such a way, for each log with which the bytes that were read agree.
 module _ {R : Type 0} (source : SourceGhosts R) (reading : WayOfReading) (before after : R) where

@@ -4,7 +4,7 @@ use Rattle.std.specs.Prelude.{option_to_list, option_map}
 use Rattle.isotp_receive.specs.declared.channel.Channel.{Channel}
 use Rattle.can_log.specs.declared.frame.Stamped.{Stamped}
 use Rattle.isotp_receive.specs.Trace.{Entry}
-use Rattle.trace_log.specs.Settings.{Settings, channel_by}
+use Rattle.trace_log.specs.Settings.{Settings, channel_of_line}
 use Rattle.trace_log.specs.Trace.{trace_from}
 
 -- the lines of these frames grow, from `low` on and below `high`
@@ -30,7 +30,7 @@ trace-grows settings n (None ∷ meanings) =
     rw at (grow-later n (n + 1) (n + 1 + length meanings) (trace_from settings (n + 1) meanings) (omega arith) (trace-grows settings (n + 1) meanings))
 trace-grows settings n (Some stamped ∷ meanings) =
     let at : n + length (Some stamped ∷ meanings) ≡ n + 1 + length meanings = omega arith in
-    rw at (grow-first n (n + 1 + length meanings) stamped (channel_by settings stamped.frame.id) (trace_from settings (n + 1) meanings) (trace-grows settings (n + 1) meanings))
+    rw at (grow-first n (n + 1 + length meanings) stamped (channel_of_line settings stamped) (trace_from settings (n + 1) meanings) (trace-grows settings (n + 1) meanings))
 
 -- so there are no more frames than lines
 pub grown-few : (low high : ℕ) (T : List Entry) → Grow low high T → low + length T ≤ high

@@ -205,7 +205,7 @@ unrefused_of (runs_in_style script refusal) limit settings log = HasNoBadPlaceWi
 abbrev pub needs_of : Engine → ℕ → Settings → List ℕ → Type 0
 needs_of normalises limit settings log = NeedsMemoryToOrder limit settings log
 needs_of (writes text) limit settings log = NeedsMemoryToCollect limit settings log
-needs_of (finds style) limit settings log = NeedsMemoryToFind log
+needs_of (finds style) limit settings log = NeedsMemoryToFind settings.interface log
 needs_of (explains notation) limit settings log = NeedsMemoryToReceive limit (without_rules settings) log
 needs_of (runs script needs) limit settings log =
     HasFrame (λ T e. IsKeptOrMasked limit settings.rules T e ⊎ needs limit settings.rules T e) settings log

@@ -3,11 +3,11 @@ use Rattle.std.proofs.Common.{◌≡◌, ◌∙◌, ℕ, ◌+◌, List, [], ◌�
 use Rattle.std.specs.Prelude.{option_to_list}
 use Rattle.can_log.specs.declared.frame.Stamped.{Stamped}
 use Rattle.isotp_receive.specs.Trace.{Entry}
-use Rattle.trace_log.specs.Settings.{Settings, channel_by, without_rules}
+use Rattle.trace_log.specs.Settings.{Settings, channel_by, channel_of_line, without_rules}
 use Rattle.trace_log.specs.Trace.{entry_of, trace_from}
 
 plain_entry : (settings : Settings) (n : ℕ) (stamped : Stamped) → entry_of (without_rules settings) n stamped ≡ entry_of settings n stamped
-unfolding channel_by
+unfolding channel_of_line channel_by
 plain_entry settings n stamped = refl
 
 pub plain_trace : (settings : Settings) (n : ℕ) (meanings : List (Option Stamped)) → trace_from (without_rules settings) n meanings ≡ trace_from settings n meanings
