@@ -2,7 +2,7 @@
 use Rattle.std.specs.Prelude.{ℕ, List, ◌++◌, codes}
 use Rattle.std.specs.Fmt.{decimal}
 use Rattle.line_text.specs.Clipped.{clipped}
-use Rattle.profile.specs.UnitWrong.{UnitWrongValue, unknown_key, not_a_name, no_identifier, out_of_range, missing, same_identifier, same_functional, same_name, same_pair}
+use Rattle.profile.specs.UnitWrong.{UnitWrongValue, unknown_key, not_a_name, not_an_interface, no_identifier, out_of_range, missing, same_identifier, same_functional, same_name, same_pair}
 use Rattle.profile.specs.declared.unit_wrong.UnitKey.{UnitKey}
 use Rattle.profile.specs.declared.unit_wrong.UnitKey.TheVariants as unit_key
 
@@ -17,6 +17,7 @@ unit_key_text unit_key.Functional = codes "functional"
 abbrev pub unit_wrong_text : UnitWrongValue → List ℕ
 unit_wrong_text (unknown_key key) = clipped key ++ codes ": unknown key"
 unit_wrong_text not_a_name = codes "name: not 1 to 32 letters, digits, - and _"
+unit_wrong_text not_an_interface = codes "interface: not 1 to 15 printable characters"
 unit_wrong_text (no_identifier key) = unit_key_text key ++ codes ": not three or eight hexadecimal digits"
 unit_wrong_text (out_of_range key) = unit_key_text key ++ codes ": identifier out of range"
 unit_wrong_text (missing key) = unit_key_text key ++ codes ": missing"

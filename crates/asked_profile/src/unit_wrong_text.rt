@@ -23,6 +23,7 @@ impl<'a> Part for UnitWrongText<'a> {
         match self.0 {
             UnitWrong::UnknownKey(key) => say(out, (Clipped(key.as_bytes()), ": unknown key")),
             UnitWrong::NotAName => say(out, "name: not 1 to 32 letters, digits, - and _"),
+            UnitWrong::NotAnInterface => { say(out, "interface: not 1 to 15 printable characters") }
             UnitWrong::NoIdentifier(key) => say(
                 out,
                 (

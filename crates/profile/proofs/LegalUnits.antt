@@ -1,6 +1,6 @@
 -- The units of a profile: legal ones, no two of which are one.
 use Rattle.std.proofs.Common.{◌≡◌, ℕ, ◌+◌, ◌≤◌, ◌&&◌, ◌==◌, Bool, true, false, List, [], ◌∷◌, ◌++◌, length, codes, nat_le, nat_lt, ltb-false, Option, Some, None, option_map, Result, Ok, Err, inl, inr, refl, ap, sym, ◌∙◌, subst, arith}
-use Rattle.std.specs.Prelude.{◌≢◌, ◌||◌, bytes_eq, option_and_then}
+use Rattle.std.specs.Prelude.{◌≢◌, ◌||◌, IfSome, bytes_eq, nat_eq, option_and_then}
 use Rattle.std.specs.List.{AllByRecursion}
 use Rattle.std.proofs.lemmas.Bool.{cases_Bool, eq-eqb, false≢true}
 use Rattle.std.proofs.lemmas.List.{length-append}
@@ -8,12 +8,13 @@ use Rattle.std.proofs.lemmas.Option.{none-some, same_Some}
 use Rattle.std.proofs.lemmas.Slice.Eq.{bytes_eq-Decides}
 use Rattle.can_log.specs.declared.frame.Id.{Id}
 use Rattle.can_log.specs.declared.frame.Id.TheVariants as id
+use Rattle.can_log.specs.Line.{interface_of, is_interface, same_interface}
 use Rattle.toml.specs.Data.{Data, Items, no_items, item, Members, as_str, as_table, get_member}
 use Rattle.profile.specs.Laws.{IsApart, IsUnit, AreTwo, AreToldApart, AreUnits}
 use Rattle.profile.specs.ProfileRules.{items_at, item_count}
 use Rattle.profile.specs.UnitKeys.{identifier_of, is_of_bus, is_name, wrong_name, wrong_spelled, wrong_identifier, wrong_unit_key, wrong_unit_keys}
 use Rattle.profile.specs.UnitWrong.{UnitWrongValue, same_name, same_pair}
-use Rattle.profile.specs.Units.{UnitValue, is_same_identifier, is_of_side, text_at, identifier_at, unit_of, unless_wrong, unit_said, number_of_name, number_of_pair, wrong_beside, unless_beside, unit_behind, table_behind, units_behind, profile_units}
+use Rattle.profile.specs.Units.{UnitValue, is_same_identifier, is_same_place, is_same_pair, is_of_side, text_at, identifier_at, interface_at, unit_of, unless_wrong, unit_said, number_of_name, number_of_pair, wrong_beside, unless_beside, unit_behind, table_behind, units_behind, profile_units}
 use Rattle.profile.specs.Wrong.{WrongValue}
 use Rattle.profile.specs.declared.unit_wrong.UnitKey.{UnitKey}
 use Rattle.profile.specs.declared.unit_wrong.UnitKey.TheVariants as unit_key
@@ -80,20 +81,21 @@ unit_or other (Ok one) = one
 unit_or other (Err wrong) = other
 
 -- what is known of the parts of a unit
-record ArePartsOf (name : Option (List ℕ)) (tester unit functional : Option Id) (one : UnitValue) : Type 0 where
+record ArePartsOf (name : Option (List ℕ)) (tester unit functional : Option Id) (interface : Option (List ℕ)) (one : UnitValue) : Type 0 where
   name_is : name ≡ Some one.name
   tester_is : tester ≡ Some one.tester
   unit_is : unit ≡ Some one.unit
   functional_is : functional ≡ one.functional
+  interface_is : interface ≡ one.interface
   two : is_same_identifier one.tester one.unit ≡ false
   apart : is_of_side one.functional one.tester one.unit ≡ false
 
-parts_are : (name : Option (List ℕ)) (tester unit functional : Option Id) (one : UnitValue) → unit_of name tester unit functional ≡ Ok one
-    → ArePartsOf name tester unit functional one
-parts_are None tester unit functional one is = absurd (cc is)
-parts_are (Some name) None unit functional one is = absurd (cc is)
-parts_are (Some name) (Some tester) None functional one is = absurd (cc is)
-parts_are (Some name) (Some tester) (Some unit) functional one is =
+parts_are : (name : Option (List ℕ)) (tester unit functional : Option Id) (interface : Option (List ℕ)) (one : UnitValue)
+    → unit_of name tester unit functional interface ≡ Ok one → ArePartsOf name tester unit functional interface one
+parts_are None tester unit functional interface one is = absurd (cc is)
+parts_are (Some name) None unit functional interface one is = absurd (cc is)
+parts_are (Some name) (Some tester) None functional interface one is = absurd (cc is)
+parts_are (Some name) (Some tester) (Some unit) functional interface one is =
     elim (cases_Bool (is_same_identifier tester unit)) [
       | inl same ↦ absurd (not_one _ one (rw same at is))
       | inr two ↦ elim (cases_Bool (is_of_side functional tester unit)) [
@@ -105,6 +107,7 @@ parts_are (Some name) (Some tester) (Some unit) functional one is =
               tester_is = ap (λ one. Some one.tester) whole;
               unit_is = ap (λ one. Some one.unit) whole;
               functional_is = ap (λ one. one.functional) whole;
+              interface_is = ap (λ one. one.interface) whole;
               two = ap (λ one. is_same_identifier one.tester one.unit) (sym whole) ∙ two;
               apart = ap (λ one. is_of_side one.functional one.tester one.unit) (sym whole) ∙ apart;
             })
@@ -131,17 +134,25 @@ is_apart table tester unit (Some functional) none is apart =
       two_identifiers functional unit both.1,
     )
 
+named : (text interface : Option (List ℕ)) → option_and_then interface_of text ≡ interface → IfSome interface (λ name. is_interface name ≡ true)
+named None interface is = subst (λ interface. IfSome interface (λ name. is_interface name ≡ true)) is tt
+named (Some text) interface is = subst (λ interface. IfSome interface (λ name. is_interface name ≡ true)) is (elim (cases_Bool (is_interface text)) [
+  | inl named ↦ rw named named
+  | inr other ↦ rw other tt
+])
+
 pub unit_legal : (table : Members) (one : UnitValue) → unit_said table ≡ Ok one → IsUnit one
 unit_legal table one is =
     let read = unless_is (wrong_unit_keys table) _ one is in
     let parts = parts_are (text_at (codes "name") table) (identifier_at (codes "tester") table) (identifier_at (codes "unit") table)
-    (identifier_at (codes "functional") table) one read.1 in
+    (identifier_at (codes "functional") table) (interface_at (codes "interface") table) one read.1 in
     record {
       name = name_at table one.name read.0 parts.name_is;
       tester = bus_at unit_key.Tester (codes "tester") table one.tester (λ value. refl) read.0 parts.tester_is;
       unit = bus_at unit_key.Unit (codes "unit") table one.unit (λ value. refl) read.0 parts.unit_is;
       two = two_identifiers one.tester one.unit parts.two;
       functional = is_apart table one.tester one.unit one.functional read.0 parts.functional_is parts.apart;
+      interface = named (text_at (codes "interface") table) one.interface parts.interface_is;
     }
 
 -- ---- units beside one another
@@ -161,22 +172,35 @@ other_names (one ∷ units) name none =
       )
     ]
 
-other_pairs : (units : List UnitValue) (tester unit : Id) → number_of_pair units tester unit ≡ None
-    → AllByRecursion (λ one. (one.tester ≡ tester) × (one.unit ≡ unit) → ⊥) units
-other_pairs [] tester unit none = tt
-other_pairs (one ∷ units) tester unit none =
-    elim (cases_Bool (is_same_identifier one.tester tester && is_same_identifier one.unit unit)) [
+same_name_is : (name : List ℕ) → same_interface name name ≡ true
+same_name_is [] = refl
+same_name_is (b ∷ name) = let first : nat_eq b b ≡ true = eq-eqb b b refl in rw first (same_name_is name)
+
+same_place_is : (interface : Option (List ℕ)) → is_same_place interface interface ≡ true
+same_place_is None = refl
+same_place_is (Some name) = same_name_is name
+
+-- the identifiers and the interface of two units are one
+abbrev HaveOnePair : UnitValue → UnitValue → Type 0
+HaveOnePair one other = (one.tester ≡ other.tester) × (one.unit ≡ other.unit) × (one.interface ≡ other.interface)
+
+same_pair_is : (one other : UnitValue) → HaveOnePair one other → is_same_pair one other ≡ true
+same_pair_is one other (testers, units, interfaces) =
+    rw (sym testers, sym units, sym interfaces) (rw (same_identifier_is one.tester, same_identifier_is one.unit, same_place_is one.interface) refl)
+
+other_pairs : (units : List UnitValue) (unit : UnitValue) → number_of_pair units unit ≡ None → AllByRecursion (λ one. HaveOnePair one unit → ⊥) units
+other_pairs [] unit none = tt
+other_pairs (one ∷ units) unit none =
+    elim (cases_Bool (is_same_pair one unit)) [
       | inl same ↦ absurd (none-some _ (sym (rw same at none)))
       | inr other ↦ (
-        λ is. false≢true (sym other ∙ both_same one.tester tester one.unit unit is.0 is.1),
-        other_pairs units tester unit (none_behind_first (number_of_pair units tester unit) (rw other at none)),
+        λ is. false≢true (sym other ∙ same_pair_is one unit is),
+        other_pairs units unit (none_behind_first (number_of_pair units unit) (rw other at none)),
       )
-    ] where
-      both_same : (a b c d : Id) → a ≡ b → c ≡ d → (is_same_identifier a b && is_same_identifier c d) ≡ true
-      both_same a b c d one two = rw (sym one, sym two) (rw (same_identifier_is a, same_identifier_is c) refl)
+    ]
 
 each_other : (units : List UnitValue) (one : UnitValue) → AllByRecursion (λ other. other.name ≢ one.name) units
-    → AllByRecursion (λ other. (other.tester ≡ one.tester) × (other.unit ≡ one.unit) → ⊥) units → AllByRecursion (λ other. AreTwo other one) units
+    → AllByRecursion (λ other. HaveOnePair other one → ⊥) units → AllByRecursion (λ other. AreTwo other one) units
 each_other [] one names pairs = tt
 each_other (other ∷ units) one names pairs = (record { names = names.0; pairs = pairs.0 }, each_other units one names.1 pairs.1)
 
@@ -186,9 +210,9 @@ none_mapped f (Some a) is = absurd (none-some _ (sym is))
 
 pub beside : (units : List UnitValue) (one : UnitValue) → wrong_beside units one ≡ None → AllByRecursion (λ other. AreTwo other one) units
 beside units one none =
-    let parts = both_none (option_map same_name (number_of_name units one.name)) (option_map same_pair (number_of_pair units one.tester one.unit)) none in
+    let parts = both_none (option_map same_name (number_of_name units one.name)) (option_map same_pair (number_of_pair units one)) none in
     each_other units one (other_names units one.name (none_mapped same_name _ parts.0))
-    (other_pairs units one.tester one.unit (none_mapped same_pair _ parts.1))
+    (other_pairs units one (none_mapped same_pair _ parts.1))
 
 pub all_behind : (P : UnitValue → Type 0) (units : List UnitValue) (one : UnitValue) → AllByRecursion P units → P one → AllByRecursion P (units ++ one ∷ [])
 all_behind P [] one all is = (is, tt)

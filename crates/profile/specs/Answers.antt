@@ -26,11 +26,12 @@ seen_rules (Err wrong) = Err (wrong_value wrong)
 
 -- a unit by bytes
 abbrev pub unit_value : ControlUnit → UnitValue
-unit_value one = record { name = string_bytes one.name; tester = one.tester; unit = one.unit; functional = one.functional }
+unit_value one =
+    record { name = string_bytes one.name; tester = one.tester; unit = one.unit; functional = one.functional; interface = one.interface }
 
 -- the same of the parts of one
 abbrev pub parts_value : UnitParts → UnitValue
-parts_value one = record { name = one.name.now; tester = one.tester; unit = one.unit; functional = one.functional }
+parts_value one = record { name = one.name.now; tester = one.tester; unit = one.unit; functional = one.functional; interface = one.interface }
 
 -- the parts of a unit, or what is wrong with it by itself
 abbrev pub seen_unit : Result UnitParts UnitWrong → Result UnitValue UnitWrongValue

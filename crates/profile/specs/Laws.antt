@@ -1,8 +1,9 @@
 -- What holds of each profile that a document is.
-use Rattle.std.specs.Prelude.{◌≡◌, ◌≢◌, ℕ, ◌+◌, ◌≤◌, true, List, [], ◌∷◌, ◌++◌, codes, length, map, Option, Some, None, Result, Ok, Err}
+use Rattle.std.specs.Prelude.{◌≡◌, ◌≢◌, ℕ, ◌+◌, ◌≤◌, true, List, [], ◌∷◌, ◌++◌, codes, length, map, Option, Some, None, IfSome, Result, Ok, Err}
 use Rattle.std.specs.List.{AllByRecursion}
 use Rattle.std.specs.Result.{result_ok}
 use Rattle.can_log.specs.declared.frame.Id.{Id}
+use Rattle.can_log.specs.Line.{is_interface}
 use Rattle.toml.specs.Data.{Items, no_items, item, Members, as_str, as_table}
 use Rattle.uds_rules.specs.Rule.{RuleValue}
 use Rattle.uds_rules.specs.Legal.{AreRules, clash_in}
@@ -22,20 +23,22 @@ IsApart tester unit None = Unit {0}
 IsApart tester unit (Some functional) = (is_of_bus functional ≡ true) × (functional ≢ tester) × (functional ≢ unit)
 
 -- A unit by itself: its name has 1 to 32 letters, digits, `-` and `_`, a bus carries the identifiers of its tester and of
--- its own, and these are two; and so is that of functional requests, if it has one, and is apart from both.
+-- its own, and these are two; and so is that of functional requests, if it has one, and is apart from both; and a line can
+-- name its interface, if it has one.
 pub record IsUnit (one : UnitValue) : Type 0 where
   pub name : is_name one.name ≡ true
   pub tester : is_of_bus one.tester ≡ true
   pub unit : is_of_bus one.unit ≡ true
   pub two : one.tester ≢ one.unit
   pub functional : IsApart one.tester one.unit one.functional
+  pub interface : IfSome one.interface (λ name. is_interface name ≡ true)
 
--- Two units have two names, and not both identifiers in common.
+-- Two units have two names, and not both identifiers and the interface in common.
 pub record AreTwo (one other : UnitValue) : Type 0 where
   pub names : one.name ≢ other.name
-  pub pairs : (one.tester ≡ other.tester) × (one.unit ≡ other.unit) → ⊥
+  pub pairs : (one.tester ≡ other.tester) × (one.unit ≡ other.unit) × (one.interface ≡ other.interface) → ⊥
 
--- no two of these units have one name, or one pair of identifiers
+-- no two of these units have one name, or one pair of identifiers on one interface
 abbrev pub AreToldApart : List UnitValue → Type 0
 AreToldApart [] = Unit {0}
 AreToldApart (one ∷ later) = AllByRecursion (AreTwo one) later × AreToldApart later

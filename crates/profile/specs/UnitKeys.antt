@@ -8,7 +8,7 @@ use Rattle.toml.specs.Data.{Data, Members, no_members, member, as_str}
 use Rattle.can_log.specs.declared.frame.Id.{Id}
 use Rattle.can_log.specs.declared.frame.Id.TheVariants as id
 use Rattle.can_log.specs.Line as line
-use Rattle.profile.specs.UnitWrong.{UnitWrongValue, unknown_key, not_a_name, no_identifier, out_of_range}
+use Rattle.profile.specs.UnitWrong.{UnitWrongValue, unknown_key, not_a_name, not_an_interface, no_identifier, out_of_range}
 use Rattle.profile.specs.declared.unit_wrong.UnitKey.{UnitKey}
 use Rattle.profile.specs.declared.unit_wrong.UnitKey.TheVariants as unit_key
 
@@ -37,6 +37,11 @@ abbrev pub wrong_name : Option (List ℕ) → Option UnitWrongValue
 wrong_name None = Some not_a_name
 wrong_name (Some text) = if is_name text then None else Some not_a_name
 
+-- what is wrong with the name of an interface
+abbrev pub wrong_interface : Option (List ℕ) → Option UnitWrongValue
+wrong_interface None = Some not_an_interface
+wrong_interface (Some text) = if line.is_interface text then None else Some not_an_interface
+
 -- what is wrong with what a text spells as an identifier
 abbrev pub wrong_spelled : UnitKey → Option Id → Option UnitWrongValue
 wrong_spelled key None = Some (no_identifier key)
@@ -54,6 +59,7 @@ wrong_unit_key key value =
     else if bytes_eq key (codes "tester") then wrong_identifier unit_key.Tester (as_str value)
     else if bytes_eq key (codes "unit") then wrong_identifier unit_key.Unit (as_str value)
     else if bytes_eq key (codes "functional") then wrong_identifier unit_key.Functional (as_str value)
+    else if bytes_eq key (codes "interface") then wrong_interface (as_str value)
     else Some (unknown_key key)
 
 -- the first key, by its bytes, with which something is wrong

@@ -8,6 +8,7 @@ use Rattle.profile.specs.declared.unit_wrong.UnitWrong.TheVariants as wrong
 pub data UnitWrongValue : Type 0 where
   unknown_key : List ℕ → UnitWrongValue
   not_a_name : UnitWrongValue
+  not_an_interface : UnitWrongValue
   no_identifier : UnitKey → UnitWrongValue
   out_of_range : UnitKey → UnitWrongValue
   missing : UnitKey → UnitWrongValue
@@ -20,6 +21,7 @@ pub data UnitWrongValue : Type 0 where
 abbrev pub unit_wrong_value : UnitWrong → UnitWrongValue
 unit_wrong_value (wrong.UnknownKey key) = unknown_key key.now
 unit_wrong_value wrong.NotAName = not_a_name
+unit_wrong_value wrong.NotAnInterface = not_an_interface
 unit_wrong_value (wrong.NoIdentifier key) = no_identifier key
 unit_wrong_value (wrong.OutOfRange key) = out_of_range key
 unit_wrong_value (wrong.Missing key) = missing key

@@ -8,6 +8,7 @@ ghost use Rattle.profile.specs.UnitWrong.{unit_wrong_value};
 
 use crate::identifiers::{identifier_of, is_of_bus};
 use crate::unit_wrong::{UnitKey, UnitWrong};
+use can_log::Interface;
 use toml::{Table, Value};
 
 /// The most bytes of a name.
@@ -41,6 +42,9 @@ fn wrong_unit_key<'a>(key: &'a str, value: &'a Value) -> Option<UnitWrong<'a>>
     if key == "functional" {
         return wrong_identifier(UnitKey::Functional, value.as_str());
     }
+    if key == "interface" {
+        return wrong_interface(value.as_str());
+    }
     Some(UnitWrong::UnknownKey(key))
 }
 
@@ -55,6 +59,19 @@ fn wrong_name<'a>(text: Option<&'a str>) -> Option<UnitWrong<'a>>
             Some(UnitWrong::NotAName)
         },
         None => Some(UnitWrong::NotAName),
+    }
+}
+
+/// What is wrong with the name of an interface.
+fn wrong_interface<'a>(text: Option<&'a str>) -> Option<UnitWrong<'a>>
+    ensures { option_map unit_wrong_value result ≡ Spec.wrong_interface (option_map (λ text. text.now) text.entry) }
+{
+    match text {
+        Some(text) => match Interface::new(text.as_bytes()) {
+            Some(_) => None,
+            None => Some(UnitWrong::NotAnInterface),
+        },
+        None => Some(UnitWrong::NotAnInterface),
     }
 }
 

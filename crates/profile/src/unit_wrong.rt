@@ -20,6 +20,8 @@ pub enum UnitWrong<'a> {
     UnknownKey(&'a str),
     /// The name is not 1 to 32 letters, digits, `-` and `_`.
     NotAName,
+    /// The value of `interface` is not 1 to 15 visible characters.
+    NotAnInterface,
     /// The value of this key is not three or eight hexadecimal digits.
     NoIdentifier(UnitKey),
     /// No bus carries the identifier of this key.
@@ -32,6 +34,6 @@ pub enum UnitWrong<'a> {
     SameFunctional,
     /// The unit of this number, from 1, has the same name, the first such one.
     SameName(usize),
-    /// The unit of this number has the same two identifiers, the first such one.
+    /// The unit of this number has the same two identifiers, on the same interface or as this one on none, the first such one.
     SamePair(usize),
 }

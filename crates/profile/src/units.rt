@@ -14,7 +14,7 @@ use crate::unit_keys::wrong_unit_keys;
 use crate::unit_wrong::{UnitKey, UnitWrong};
 use crate::wrong::Wrong;
 use arrayvec::ArrayVec;
-use can_log::Id;
+use can_log::{Id, Interface};
 use std::alloc::{AllocError, Global};
 use toml::Table;
 use toml::value::Array;
@@ -30,6 +30,8 @@ pub struct ControlUnit {
     pub unit: Id,
     /// The identifier on which the tester asks all units, if it does.
     pub functional: Option<Id>,
+    /// The interface that both stand on, if it is named.
+    pub interface: Option<Interface>,
 }
 
 /// What a table says of a unit.
@@ -39,6 +41,7 @@ pub(crate) struct UnitParts<'a> {
     pub tester: Id,
     pub unit: Id,
     pub functional: Option<Id>,
+    pub interface: Option<Interface>,
 }
 
 /// What stands where there is no unit.
@@ -53,6 +56,7 @@ impl<'a> Default for UnitParts<'a> {
             tester: Id::Std(0),
             unit: Id::Std(0),
             functional: None,
+            interface: None,
         }
     }
 }
@@ -103,6 +107,7 @@ fn kept_unit(alloc: Global, one: &UnitParts<'_>) -> Result<ControlUnit, AllocErr
         tester: one.tester,
         unit: one.unit,
         functional: one.functional,
+        interface: one.interface,
     })
 }
 
@@ -186,6 +191,7 @@ fn unit_said<'a>(table: &'a Table) -> Result<UnitParts<'a>, UnitWrong<'a>>
         tester,
         unit,
         functional,
+        interface: interface_at(table, "interface"),
     })
 }
 
@@ -199,6 +205,16 @@ fn identifier_at(table: &Table, key: &str) -> Option<Id>
     }
 }
 
+/// The interface at a key, if one stands there.
+fn interface_at(table: &Table, key: &str) -> Option<Interface>
+    ensures { result ≡ Spec.interface_at key.now (table_view table.now) }
+{
+    match text_at(table, key) {
+        Some(text) => Interface::new(text.as_bytes()),
+        None => None,
+    }
+}
+
 /// What is wrong with a unit beside earlier ones.
 fn wrong_beside<'a>(units: &[UnitParts<'a>], parts: &UnitParts<'a>) -> Option<UnitWrong<'a>>
     ensures { option_map unit_wrong_value result ≡ Spec.wrong_beside (map parts_value units.now) (parts_value parts.now) }
@@ -206,7 +222,7 @@ fn wrong_beside<'a>(units: &[UnitParts<'a>], parts: &UnitParts<'a>) -> Option<Un
     if let Some(number) = number_of_name(units, parts.name) {
         return Some(UnitWrong::SameName(number));
     }
-    match number_of_pair(units, parts.tester, parts.unit) {
+    match number_of_pair(units, parts) {
         Some(number) => Some(UnitWrong::SamePair(number)),
         None => None,
     }
@@ -226,18 +242,38 @@ fn number_of_name(units: &[UnitParts<'_>], name: &str) -> Option<usize>
     None
 }
 
-/// The number of the first unit of these identifiers, if there is one.
-fn number_of_pair(units: &[UnitParts<'_>], tester: Id, unit: Id) -> Option<usize>
-    ensures { result ≡ Spec.number_of_pair (map parts_value units.now) tester unit }
+/// The number of the first unit with the pair of this one, if there is one.
+fn number_of_pair(units: &[UnitParts<'_>], parts: &UnitParts<'_>) -> Option<usize>
+    ensures { result ≡ Spec.number_of_pair (map parts_value units.now) (parts_value parts.now) }
 {
     let mut number = 0;
     'units: for one in units {
         number += 1;
-        if is_same_identifier(one.tester, tester) && is_same_identifier(one.unit, unit) {
+        if is_same_pair(one, parts) {
             return Some(number);
         }
     }
     None
+}
+
+/// Whether two units have the same two identifiers, on the same interface or both on none.
+fn is_same_pair(one: &UnitParts<'_>, other: &UnitParts<'_>) -> bool
+    ensures { result ≡ Spec.is_same_pair (parts_value one.now) (parts_value other.now) }
+{
+    is_same_identifier(one.tester, other.tester)
+        && (is_same_identifier(one.unit, other.unit)
+            && is_same_place(one.interface, other.interface))
+}
+
+/// Whether there is one interface, or none twice.
+fn is_same_place(one: Option<Interface>, other: Option<Interface>) -> bool
+    ensures { result ≡ Spec.is_same_place one other }
+{
+    match (one, other) {
+        (Some(one), Some(other)) => one.is_same(&other),
+        (None, None) => true,
+        _ => false,
+    }
 }
 
 /// Whether there is an identifier of functional requests, and it is one of the two.

@@ -87,14 +87,14 @@ module _ (frames : List FrameValue) where
       ∙ ap (option_map (λ number. number + 1)) (no-name rest one earlier_stand.1 stands others.1)
 
   no-pair : (earlier : List FoundUnit) (one : FoundUnit) → AreOthers earlier one
-      → number_of_pair (map (unit_meant frames) earlier) one.pair.tester one.pair.unit ≡ None
+      → number_of_pair (map (unit_meant frames) earlier) (unit_meant frames one) ≡ None
   no-pair [] one others = refl
   no-pair (first ∷ rest) one others =
-      ap (λ b. if is_same_identifier first.pair.tester one.pair.tester && b then Some 1
-      else option_map (λ number. number + 1) (number_of_pair (map (unit_meant frames) rest) one.pair.tester one.pair.unit))
+      ap (λ b. if is_same_identifier first.pair.tester one.pair.tester && (b && true) then Some 1
+      else option_map (λ number. number + 1) (number_of_pair (map (unit_meant frames) rest) (unit_meant frames one)))
       (same-as first.pair.unit one.pair.unit ∙ others.0)
       ∙ ap (λ b. if b then Some 1
-      else option_map (λ number. number + 1) (number_of_pair (map (unit_meant frames) rest) one.pair.tester one.pair.unit))
+      else option_map (λ number. number + 1) (number_of_pair (map (unit_meant frames) rest) (unit_meant frames one)))
       (and-false (is_same_identifier first.pair.tester one.pair.tester))
       ∙ ap (option_map (λ number. number + 1)) (no-pair rest one others.1)
     where

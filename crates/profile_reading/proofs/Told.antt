@@ -150,25 +150,25 @@ rest-read : (name first second : List ℕ) (tester unit : Id) (functional : Opti
     → is_of_side functional tester unit ≡ false
     → unless_wrong (option_or (if is_name name then None else Some not_a_name)
     (option_or (wrong_spelled unit_key.Tester (identifier_of first)) (option_or (wrong_spelled unit_key.Unit (identifier_of second)) None)))
-    (unit_of (Some name) (identifier_of first) (identifier_of second) functional)
-    ≡ Ok (record { name = name; tester = tester; unit = unit; functional = functional })
+    (unit_of (Some name) (identifier_of first) (identifier_of second) functional None)
+    ≡ Ok (record { name = name; tester = tester; unit = unit; functional = functional; interface = None })
 rest-read name first second tester unit functional legal first_is tester_fits second_is unit_fits apart beside =
     ap (λ b. unless_wrong (option_or (if b then None else Some not_a_name)
     (option_or (wrong_spelled unit_key.Tester (identifier_of first)) (option_or (wrong_spelled unit_key.Unit (identifier_of second)) None)))
-    (unit_of (Some name) (identifier_of first) (identifier_of second) functional)) legal
+    (unit_of (Some name) (identifier_of first) (identifier_of second) functional None)) legal
     ∙ ap (λ o. unless_wrong (option_or (wrong_spelled unit_key.Tester o) (option_or (wrong_spelled unit_key.Unit (identifier_of second)) None))
-    (unit_of (Some name) o (identifier_of second) functional)) first_is
+    (unit_of (Some name) o (identifier_of second) functional None)) first_is
     ∙ ap (λ o. unless_wrong (option_or (wrong_spelled unit_key.Tester (Some tester)) (option_or (wrong_spelled unit_key.Unit o) None))
-    (unit_of (Some name) (Some tester) o functional)) second_is
+    (unit_of (Some name) (Some tester) o functional None)) second_is
     ∙ ap (λ b. unless_wrong (option_or (if b then None else Some (out_of_range unit_key.Tester))
-    (option_or (wrong_spelled unit_key.Unit (Some unit)) None)) (unit_of (Some name) (Some tester) (Some unit) functional)) tester_fits
+    (option_or (wrong_spelled unit_key.Unit (Some unit)) None)) (unit_of (Some name) (Some tester) (Some unit) functional None)) tester_fits
     ∙ ap (λ b. unless_wrong (option_or (if b then None else Some (out_of_range unit_key.Unit)) None)
-    (unit_of (Some name) (Some tester) (Some unit) functional)) unit_fits
+    (unit_of (Some name) (Some tester) (Some unit) functional None)) unit_fits
     ∙ ap (λ b. if b then Err same_identifier else (if is_of_side functional tester unit then Err same_functional else Ok made)) apart
     ∙ ap (λ b. one-of b) beside
   where
     made : UnitValue
-    made = record { name = name; tester = tester; unit = unit; functional = functional }
+    made = record { name = name; tester = tester; unit = unit; functional = functional; interface = None }
 
     one-of : Bool → Result UnitValue UnitWrongValue
     one-of b = if b then Err same_functional else Ok made
@@ -200,8 +200,8 @@ module _ (frames : List FrameValue) (found : FoundUnit) (stands : IsUnitOfBus fr
       (option_or (wrong_spelled unit_key.Tester (identifier_of (identifier_text found.pair.tester)))
       (option_or (wrong_spelled unit_key.Unit (identifier_of (identifier_text found.pair.unit))) None)))
       (unit_of (Some (unit_name (credit_line frames found))) (identifier_of (identifier_text found.pair.tester))
-      (identifier_of (identifier_text found.pair.unit)) functional)
-      ≡ Ok (record { name = unit_name (credit_line frames found); tester = found.pair.tester; unit = found.pair.unit; functional = functional })
+      (identifier_of (identifier_text found.pair.unit)) functional None)
+      ≡ Ok (record { name = unit_name (credit_line frames found); tester = found.pair.tester; unit = found.pair.unit; functional = functional; interface = None })
   rest-is functional beside =
       rest-read (unit_name (credit_line frames found)) (identifier_text found.pair.tester) (identifier_text found.pair.unit)
       found.pair.tester found.pair.unit functional (names_are_legal frames found)
@@ -220,7 +220,7 @@ module _ (frames : List FrameValue) (found : FoundUnit) (stands : IsUnitOfBus fr
       → unit_said (functional_in_front (option_map id_text functional) (member (codes "name") (string (unit_name (credit_line frames found)))
       (member (codes "tester") (string (identifier_text found.pair.tester)) (member (codes "unit") (string (identifier_text found.pair.unit))
       no_members))))
-      ≡ Ok (record { name = unit_name (credit_line frames found); tester = found.pair.tester; unit = found.pair.unit; functional = functional })
+      ≡ Ok (record { name = unit_name (credit_line frames found); tester = found.pair.tester; unit = found.pair.unit; functional = functional; interface = None })
   table-is None none = rest-is None refl
   table-is (Some one) third =
       let fits = functional-fits one (functional_is_identifier frames one third.functional) in

@@ -55,6 +55,7 @@ unit_meant frames found = record {
   tester = found.pair.tester;
   unit = found.pair.unit;
   functional = found.functional;
+  interface = None;
 }
 
 -- the table of a unit is read as this, with its tester and its functional identifier, under its name

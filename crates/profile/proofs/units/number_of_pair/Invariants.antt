@@ -6,5 +6,5 @@ use Rattle.profile.proofs.units.number_of_pair.Given as goal
 abbrev pub invariant-units : goal.invariant-units
 invariant-units l = record {
   number : l.number ≡ l.one-index;
-  rest : number_of_pair (map parts_value l.units) l.tester l.unit ≡ option_map (λ number. l.number + number) (number_of_pair (map parts_value (drop l.one-index l.units)) l.tester l.unit);
+  rest : number_of_pair (map parts_value l.units) (parts_value l.parts) ≡ option_map (λ number. l.number + number) (number_of_pair (map parts_value (drop l.one-index l.units)) (parts_value l.parts));
 }
