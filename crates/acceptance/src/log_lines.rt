@@ -2,68 +2,71 @@
 //! program.
 
 use crate::rows::{assert_marked, digits_of, lines_of, log_marked, name_of, rows_of};
-use can_log::{Id, LineClock, Scan, Scanner, Stamped, append_line, change_line, line_bytes};
+use can_log::{
+    Id, Interface, LineClock, Scan, Scanner, Stamped, append_line, change_line, line_bytes,
+};
 use std::alloc::{AllocError, Global};
 use std::process::Abort;
+use std::str;
 use std::test::Fail;
 
 /// Logs, the last line of some without its line feed; what their lines mean, a blank one nothing; and their refused places.
 const LOGS: &str = "\
 no data
 line (1.000000) can0 7E0#
-means 1000000 7E0# Classic
+means 1000000 can0 7E0# Classic
 
 a remote frame with a raw length code
 line (1.000000) can0 7E0#R8_F
-means 1000000 7E0# Remote
+means 1000000 can0 7E0# Remote
 
 CAN FD without data
 line (1.000000) can0 7E0##0
-means 1000000 7E0# Fd
+means 1000000 can0 7E0# Fd
 
 several spaces, an extended identifier, flags and a mark
 line (9999999999.999999)    vcan0 1FFFFFFF##3AABB T
-means 9999999999999999 1FFFFFFF#AABB Fd
+means 9999999999999999 vcan0 1FFFFFFF#AABB Fd
 
 a carriage return at the end of the log
 last (1.000000) can0 7E0#00\r
-means 1000000 7E0#00 Classic
+means 1000000 can0 7E0#00 Classic
 
 a remote frame
 line (1.000000) can0 7E0#R
-means 1000000 7E0# Remote
+means 1000000 can0 7E0# Remote
 
 a remote frame with a length and a mark
 line (1.000000) can0 7E0#R0 R
-means 1000000 7E0# Remote
+means 1000000 can0 7E0# Remote
 
 an extended identifier that a base one has the number of
 line (1.000000) can0 000007E0#0322F190
-means 1000000 000007E0#0322F190 Classic
+means 1000000 can0 000007E0#0322F190 Classic
 
 a raw length code and a mark
 line (1.000000) can0 7E0#0322F190AAAAAAAA_9 R
-means 1000000 7E0#0322F190AAAAAAAA Classic
+means 1000000 can0 7E0#0322F190AAAAAAAA Classic
 
 lower case, and an identifier above 29 bits
 line (0000000000.000000) abcdefghijklmno FFFFFFFF#0322f190aaaaaaaa_a T
-means 0 FFFFFFFF#0322F190AAAAAAAA Classic
+means 0 abcdefghijklmno FFFFFFFF#0322F190AAAAAAAA Classic
 
 an interface of other signs, and CR LF
 line (0.000001) #(1 7fF#Ff\r
-means 1 7FF#FF Classic
+means 1 #(1 7FF#FF Classic
 
 as many spaces as there may be
 line (1.000000)                a                000#                R
-means 1000000 000# Classic
+means 1000000 a 000# Classic
 
 nine bytes of CAN FD in a last line without a line feed
 last (1.000000) can0 80000000##F001122334455667788
-means 1000000 80000000#001122334455667788 Fd
+means 1000000 can0 80000000#001122334455667788 Fd
 
 the longest line
 line (9999999999.999999)                abcdefghijklmno                FFFFFFFF##F000102030405060708090A0B0C0D0E0F101112131415161718191A1B1C1D1E1F202122232425262728292A2B2C2D2E2F303132333435363738393A3B3C3D3E3F                T\r
-means 9999999999999999 FFFFFFFF#000102030405060708090A0B0C0D0E0F101112131415161718191A1B1C1D1E1F202122232425262728292A2B2C2D2E2F303132333435363738393A3B3C3D3E3F Fd
+means 9999999999999999 abcdefghijklmno FFFFFFFF#000102030405060708090A0B0C0D0E0F101112131415161718191A1B1C1D1E1F202122232425262728292A2B2C2D2E2F303132333435363738393A3B3C3D3E3F Fd
 
 an empty log
 
@@ -81,7 +84,7 @@ line \r
 last (1.000000) can0 123#00
 means nothing
 means nothing
-means 1000000 123#00 Classic
+means 1000000 can0 123#00 Classic
 
 a session
 line (1700000000.000000) can0 7E0#0322F190
@@ -89,11 +92,11 @@ line (1700000000.012000) can0 7E8#101462F190574241
 line (1700000000.012300) can0 7E0#300000
 line (1700000000.020000) can0 7E8#2133413543353045
 line (1700000000.030000) can0 7E8#2246313233343536
-means 1700000000000000 7E0#0322F190 Classic
-means 1700000000012000 7E8#101462F190574241 Classic
-means 1700000000012300 7E0#300000 Classic
-means 1700000000020000 7E8#2133413543353045 Classic
-means 1700000000030000 7E8#2246313233343536 Classic
+means 1700000000000000 can0 7E0#0322F190 Classic
+means 1700000000012000 can0 7E8#101462F190574241 Classic
+means 1700000000012300 can0 7E0#300000 Classic
+means 1700000000020000 can0 7E8#2133413543353045 Classic
+means 1700000000030000 can0 7E8#2246313233343536 Classic
 
 a refused line after legal ones
 line
@@ -101,7 +104,7 @@ line (2.500000) can0 7E8#01
 line (2.500000) can0 7E8#0
 line
 means nothing
-means 2500000 7E8#01 Classic
+means 2500000 can0 7E8#01 Classic
 refused line 3 column 22
 ";
 
@@ -119,16 +122,16 @@ line (1700000000.001446) can0 00000000##002070c11161b20252a2f34393e43484d52575c6
 line (1700000000.001687) can0 7E8##3
 line (1700000000.001928) can0 7E0#30
 line (1700000000.002169) can0 7E8##200000000000000000000000000000000000000000000000000000000000000000000000000000000000000000000000000000000000000000000000000000000
-means 1700000000000241 7E0#031089D2AAAAAAAA Classic
-means 1999999 18DA00F1#0A1B Classic
-means 1700000000000723 000# Classic
-means 9999999999000000 FFFFFFFF#0123456789ABCD Classic
-means 1700000000000964 7E8#0C62F19041 Fd
-means 1700000000001205 7FF#0104070A0D101316191C1F2225282B2E3134373A3D404346494C4F5255585B5E6164676A6D707376797C7F8285888B8E9194979A9DA0A3A6A9ACAFB2B5B8BBBE Fd
-means 1700000000001446 00000000#02070C11161B20252A2F34393E43484D52575C61666B70757A7F84898E93989DA2A7ACB1B6BBC0C5CACFD4D9DEE3E8ED Fd
-means 1700000000001687 7E8# Fd
-means 1700000000001928 7E0#30 Classic
-means 1700000000002169 7E8#00000000000000000000000000000000000000000000000000000000000000000000000000000000000000000000000000000000000000000000000000000000 Fd
+means 1700000000000241 can0 7E0#031089D2AAAAAAAA Classic
+means 1999999 vcan12345678901 18DA00F1#0A1B Classic
+means 1700000000000723 ~ 000# Classic
+means 9999999999000000 can0 FFFFFFFF#0123456789ABCD Classic
+means 1700000000000964 can0 7E8#0C62F19041 Fd
+means 1700000000001205 can0 7FF#0104070A0D101316191C1F2225282B2E3134373A3D404346494C4F5255585B5E6164676A6D707376797C7F8285888B8E9194979A9DA0A3A6A9ACAFB2B5B8BBBE Fd
+means 1700000000001446 can0 00000000#02070C11161B20252A2F34393E43484D52575C61666B70757A7F84898E93989DA2A7ACB1B6BBC0C5CACFD4D9DEE3E8ED Fd
+means 1700000000001687 can0 7E8# Fd
+means 1700000000001928 can0 7E0#30 Classic
+means 1700000000002169 can0 7E8#00000000000000000000000000000000000000000000000000000000000000000000000000000000000000000000000000000000000000000000000000000000 Fd
 ";
 
 /// Lines of plain form with marks, with carriage returns, and with fewer digits of seconds.
@@ -150,22 +153,22 @@ line (88888888.999999) can0 7E0#0D
 line (999999999.999999) can0 7E0#0E R\r
 line
 line (000000000.000000) can0 7E0##2000102030405060708090A0B0C0D0E0F101112131415161718191A1B1C1D1E1F202122232425262728292A2B2C2D2E2F303132333435363738393A3B3C3D3E3F R\r
-means 1700000000000241 7E0#031089D2AAAAAAAA Classic
-means 1700000000000482 18DA00F1#0A1B Classic
-means 1700000000000723 000# Classic
-means 1700000000000964 7E8#0C62F19041 Fd
-means 1700000000001205 7FF#0104 Fd
-means 1000001 7E0#021001 Classic
-means 22000020 7E8#025001AAAAAAAAAA Classic
-means 333000300 18DA00F1#1122 Fd
-means 4444004000 7E0# Classic
-means 55555050000 7E0#0A Classic
-means 666666600000 7E0#0B Classic
-means 7777777000000 7E0#0C Classic
-means 88888888999999 7E0#0D Classic
-means 999999999999999 7E0#0E Classic
+means 1700000000000241 can0 7E0#031089D2AAAAAAAA Classic
+means 1700000000000482 can0 18DA00F1#0A1B Classic
+means 1700000000000723 can0 000# Classic
+means 1700000000000964 can0 7E8#0C62F19041 Fd
+means 1700000000001205 can0 7FF#0104 Fd
+means 1000001 can0 7E0#021001 Classic
+means 22000020 can0 7E8#025001AAAAAAAAAA Classic
+means 333000300 can0 18DA00F1#1122 Fd
+means 4444004000 ~ 7E0# Classic
+means 55555050000 can0 7E0#0A Classic
+means 666666600000 vcan12345678901 7E0#0B Classic
+means 7777777000000 can0 7E0#0C Classic
+means 88888888999999 can0 7E0#0D Classic
+means 999999999999999 can0 7E0#0E Classic
 means nothing
-means 0 7E0#000102030405060708090A0B0C0D0E0F101112131415161718191A1B1C1D1E1F202122232425262728292A2B2C2D2E2F303132333435363738393A3B3C3D3E3F Fd
+means 0 can0 7E0#000102030405060708090A0B0C0D0E0F101112131415161718191A1B1C1D1E1F202122232425262728292A2B2C2D2E2F303132333435363738393A3B3C3D3E3F Fd
 ";
 
 /// What is refused in such lines, where others stand behind them: for a line near the end of a piece is read elsewhere.
@@ -213,7 +216,7 @@ fn assert_log(rt: &impl Abort, alloc: Global, row: &str) -> Result<(), Fail> {
     Ok(())
 }
 
-/// Tells what a line means: its microseconds, its frame as a plain line spells it, and the kind of that.
+/// Tells what a line means: its microseconds, its interface, its frame as a plain line spells it, and the kind of that.
 fn push_meaning(
     alloc: Global,
     text: &mut String,
@@ -227,8 +230,9 @@ fn push_meaning(
         Id::Ext(id) => format!(in alloc; "{id:08X}")?,
     };
     let digits = digits_of(alloc, stamped.frame.data())?;
+    let interface = str::from_utf8(stamped.interface.bytes()).unwrap_or("");
     let (micros, kind) = (stamped.micros, stamped.frame.kind());
-    text.push_str(&format!(in alloc; "{micros} {id}#{digits} {kind:?}\n")?)
+    text.push_str(&format!(in alloc; "{micros} {interface} {id}#{digits} {kind:?}\n")?)
 }
 
 /// What was answered of a log: what its lines mean, and its refused place.
@@ -557,4 +561,52 @@ fn lines_are_made_of_others_with_their_identifier(rt: HostRuntime) {
     change_line(&mut line, &clock, &data);
     let expected = *b"(9876543210.765000) can0 18DAF110#0123456789ABCDEF\n";
     assert_eq!(rt; line, expected);
+}
+
+/// Names that lines can have, and others, which have no byte, too many, a space, or one that is not visible.
+const NAMES: &str = "\
+is can0
+is a
+is ~!#()
+is abcdefghijklmno
+no
+no abcdefghijklmnop
+no can 0
+no can0\x7f
+no c\tn0";
+
+#[test]
+fn interfaces_have_names_that_lines_can_have(rt: HostRuntime) -> Result<(), Fail> {
+    for row in lines_of(NAMES) {
+        let (word, name) = row.split_once(' ').unwrap_or((row, ""));
+        match Interface::new(name.as_bytes()) {
+            Some(interface) => {
+                assert!(rt;
+                    word == "is" && interface.bytes() == name.as_bytes(),
+                    "{row}"
+                );
+            }
+            None => assert!(rt; word == "no", "{row}"),
+        }
+    }
+    Ok(())
+}
+
+#[test]
+fn names_are_compared_whole(rt: HostRuntime) {
+    for (one, other) in [
+        ("can0", "can1"),
+        ("can", "can0"),
+        ("can0", "can"),
+        ("vcan0", "can0"),
+    ] {
+        let same = match (
+            Interface::new(one.as_bytes()),
+            Interface::new(other.as_bytes()),
+        ) {
+            (Some(first), Some(second)) => first.is_same(&second) || !first.is_same(&first),
+            _ => true,
+        };
+        assert!(rt; !same, "{one} {other}");
+    }
 }

@@ -93,6 +93,30 @@ tester = \"7E0\"
 unit = \"7E8\"
 functional = \"7e8\"
 
+unit 1 interface
+[[unit]]
+name = \"engine\"
+tester = \"7E0\"
+unit = \"7E8\"
+interface = \"can 0\"
+
+unit 3 pair of 1
+[[unit]]
+name = \"engine\"
+tester = \"7E0\"
+unit = \"7E8\"
+interface = \"can0\"
+[[unit]]
+name = \"copied\"
+tester = \"7E0\"
+unit = \"7E8\"
+interface = \"can1\"
+[[unit]]
+name = \"again\"
+tester = \"7E0\"
+unit = \"7E8\"
+interface = \"can0\"
+
 unit 2 name of 1
 [[unit]]
 name = \"engine\"
@@ -230,6 +254,7 @@ fn unit_words(alloc: Global, number: usize, wrong: &UnitWrong<'_>) -> Result<Str
     let words = match wrong {
         UnitWrong::UnknownKey(key) => format!(in alloc; "unit {number} {key}: unknown key")?,
         UnitWrong::NotAName => format!(in alloc; "unit {number} name")?,
+        UnitWrong::NotAnInterface => format!(in alloc; "unit {number} interface")?,
         UnitWrong::NoIdentifier(_) => format!(in alloc; "unit {number} no identifier")?,
         UnitWrong::OutOfRange(_) => format!(in alloc; "unit {number} out of range")?,
         UnitWrong::Missing(UnitKey::Tester) => format!(in alloc; "unit {number} missing tester")?,
