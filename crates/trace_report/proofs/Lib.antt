@@ -18,6 +18,7 @@ mod RowPlaces
 mod RowTargets
 mod WaitedAnswers
 mod OtherAnswers
+mod CountedOthers
 mod DistinctIdentifiers
 pub mod PageStyle
 pub mod ToldAnswers

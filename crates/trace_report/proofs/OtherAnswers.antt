@@ -28,13 +28,21 @@ asked_onward asked (first ∷ rows) others = asked_onward (asked_with asked firs
 pub asked_next : (rows : List RowValue) (one : RowValue) → last_asked (rows ++ one ∷ []) ≡ asked_with (last_asked rows) one
 asked_next rows one = asked_onward [] rows (one ∷ [])
 
+-- the answers of two lists of rows
+pub others_onward : (rules : List RuleValue) (asked : List ℕ) (rows more : List RowValue)
+    → others_behind rules asked (rows ++ more) ≡ others_behind rules asked rows ++ others_behind rules (asked_behind asked rows) more
+others_onward rules asked [] more = refl
+others_onward rules asked (first ∷ rows) more =
+    let front = other_target (is_other rules asked first) first in
+    let later = asked_with asked first in
+    ap (λ rest. front ++ rest) (others_onward rules later rows more)
+    ∙ sym (append_assoc front (others_behind rules later rows) (others_behind rules (asked_behind later rows) more))
+
 others_more : (rules : List RuleValue) (asked : List ℕ) (rows : List RowValue) (one : RowValue)
     → others_behind rules asked (rows ++ one ∷ []) ≡ others_behind rules asked rows ++ other_target (is_other rules (asked_behind asked rows) one) one
-others_more rules asked [] one = append-nil (other_target (is_other rules asked one) one)
-others_more rules asked (first ∷ rows) one =
-    let front = other_target (is_other rules asked first) first in
-    ap (λ rest. front ++ rest) (others_more rules (asked_with asked first) rows one)
-    ∙ sym (append_assoc front (others_behind rules (asked_with asked first) rows) (other_target (is_other rules (asked_behind (asked_with asked first) rows) one) one))
+others_more rules asked rows one =
+    others_onward rules asked rows (one ∷ [])
+    ∙ ap (λ rest. others_behind rules asked rows ++ rest) (append-nil (other_target (is_other rules (asked_behind asked rows) one) one))
 
 few_more : (other : Bool) (one : RowValue) (n : ℕ) (xs : List LinkTarget) → length xs ≤ n → length (other_target other one ++ xs) ≤ suc n
 few_more true one n xs few = omega (arith, few)

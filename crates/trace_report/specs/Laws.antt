@@ -1,7 +1,7 @@
 -- What holds of a page, whatever log it is of.
 use Prim.Native.Char.{code}
 use Rattle.std.specs.Prelude.{◌≡◌, ◌≢◌, ◌↔◌, ℕ, ◌==◌, ◌<◌, ◌^◌, true, ⊤, List, [], ◌∷◌, false, length, map, ◌++◌, Option, Some, None}
-use Rattle.std.specs.List.{AllByRecursion, list_any}
+use Rattle.std.specs.List.{AllByRecursion, count_by, list_any}
 use Rattle.can_log.specs.declared.frame.Stamped.{Stamped}
 use Rattle.direction.specs.declared.Dir.{Dir}
 use Rattle.isotp_receive.specs.declared.TheConstants.{MESSAGE_LIMIT}
@@ -18,6 +18,7 @@ use Rattle.trace_report.specs.Roles.{role_of_step, asked_at}
 use Rattle.trace_report.specs.Items.{item_value, items_in}
 use Rattle.trace_report.specs.Linked.{HasEachTarget, identifiers_in}
 use Rattle.trace_report.specs.Looks.{look_told, signs}
+use Rattle.trace_report.specs.OtherAnswers.{has_other_answer, others_in}
 use Rattle.trace_report.specs.Page.{all_rows}
 use Rattle.trace_report.specs.MessageRows.{message_row, note_text}
 use Rattle.trace_report.specs.Style.{page_style}
@@ -62,6 +63,11 @@ ItemsAreTheMeaning = (rules : List RuleValue) (T : List Entry)
 -- an answer is told as negative exactly where it is a negative response
 abbrev pub NegativeIsNegative : Type 0
 NegativeIsNegative = (asked : ℕ) (d : Dir) (bytes : List ℕ) → (role_of_step asked becomes.Answer d bytes ≡ message_role.Negative asked) ↔ (is_negative_response bytes ≡ true)
+
+-- as many answers are told as other than was asked as items of the session have such an answer
+abbrev pub OthersAreOfItems : Type 0
+OthersAreOfItems = (rules : List RuleValue) (T : List Entry)
+    → length (others_in rules (all_rows MESSAGE_LIMIT rules T)) ≡ count_by (has_other_answer rules) (meaning (messages_under rules MESSAGE_LIMIT T))
 
 -- a message in its place, but that its first frame came at this time
 abbrev pub begun_at : ℕ → MessagePlace → MessagePlace

@@ -1,8 +1,9 @@
 -- Positive answers that are other than was asked, by the rows of a trace under rules: what a response repeats of its request
 -- (ISO 14229-1) differs.
-use Rattle.std.specs.Prelude.{ℕ, Bool, false, List, [], ◌∷◌, ◌++◌, length, take, if◌then◌else◌}
+use Rattle.std.specs.Prelude.{ℕ, Bool, false, List, [], ◌∷◌, ◌++◌, length, take, Some, None, if◌then◌else◌}
 use Rattle.asked_request.specs.Asked.{asked_of}
 use Rattle.uds_echo.specs.Echo.{answers_other}
+use Rattle.uds_exchange.specs.Meaning.{ItemValue, exchange, stray}
 use Rattle.uds_rules.specs.Rule.{RuleValue}
 use Rattle.trace_report.specs.Rows.{RowValue, message, no_answer, dropped, ended, unfinished}
 use Rattle.trace_report.specs.Sorts.{most_links, target_of}
@@ -70,3 +71,9 @@ others_in rules rows = others_behind rules [] rows
 -- how many such answers these rows tell, and where links to the first of them lead
 abbrev pub others_of : List RuleValue → List RowValue → OtherAnswers
 others_of rules rows = record { count = length (others_in rules rows); first = record { items = take most_links (others_in rules rows) } }
+
+-- an item of a session has such an answer, by what is kept of its request
+abbrev pub has_other_answer : List RuleValue → ItemValue → Bool
+has_other_answer rules (exchange request None) = false
+has_other_answer rules (exchange request (Some reply)) = answers_other rules (asked_of request) reply
+has_other_answer rules (stray d bytes) = false

@@ -1,7 +1,7 @@
 //! What holds of a page, whatever log it is of. A law is its contract; a call does nothing.
 
 ghost use Rattle.trace_report.specs.Laws.{AfterIsFromTheLastFrame, AfterIsToTheFirstFrame, IdentifiersStandOnce};
-ghost use Rattle.trace_report.specs.Laws.{ItemsAreTheMeaning, LinksHaveTargets, LooksAreTold, NegativeIsNegative};
+ghost use Rattle.trace_report.specs.Laws.{ItemsAreTheMeaning, LinksHaveTargets, LooksAreTold, NegativeIsNegative, OthersAreOfItems};
 ghost use Rattle.trace_report.specs.Laws.{RuledStyleHoldsNoTag, StyleHoldsNoTag, TimeIsOfTheLastFrame};
 ghost use Rattle.trace_report.specs.Numbers.{LineNumbersArePlaces, RowNumbersArePlaces};
 
@@ -32,9 +32,11 @@ pub fn numbers_are_places()
     ensures lines { LineNumbersArePlaces }
 {}
 
-/// What a page says of answers is so: one is negative exactly where it is a negative response (ISO 14229-1).
+/// What a page says of answers is so: one is negative exactly where it is a negative response (ISO 14229-1), and as many are other
+/// than was asked as items have such an answer.
 pub fn answers_are_as_told()
     ensures negative { NegativeIsNegative }
+    ensures other { OthersAreOfItems }
 {}
 
 /// The time of a message is that of its last frame; how long after its request a reply came goes from the last frame of
